@@ -1,0 +1,5 @@
+pub mod BadKey
+pub mod Key
+pub mod Line
+pub mod NotNext
+pub mod Validity

@@ -1,0 +1,27 @@
+use crate::key::Key;
+
+/// A row of a stream: a key and two values that hold from `start` up to, and without, `end`.
+#[derive(Clone, Copy, Debug, PartialEq, Eq)]
+pub struct Event {
+    /// The first time at which the row holds.
+    pub start: u64,
+    /// The first time after `start` at which it no longer holds.
+    pub end: u64,
+    /// What the row is about.
+    pub key: Key,
+    /// The first value.
+    pub a: i64,
+    /// The second value.
+    pub b: i64,
+}
+
+/// One element of a stream.
+#[derive(Clone, Copy, Debug, PartialEq, Eq)]
+pub enum Element {
+    /// A row.
+    Row(Event),
+    /// A current-time increment: no later row of the stream starts before this time.
+    Cti(u64),
+    /// The end of the stream: nothing follows.
+    End,
+}

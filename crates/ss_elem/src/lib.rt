@@ -1,0 +1,18 @@
+//! Elements of streams: keys, events, bounds, which element may follow which, and the line of each.
+#![tactic(auto)]
+
+mod bound;
+mod element;
+mod key;
+mod key_order;
+mod line_buf;
+mod validity;
+#[cfg(test)]
+mod tests;
+
+pub use bound::Bound;
+pub use element::{Element, Event};
+pub use key::{BadKey, Key};
+pub use key_order::key_order_is_text_order;
+pub use line_buf::{LineBuf, line};
+pub use validity::{NotNext, valid_next};

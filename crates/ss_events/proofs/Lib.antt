@@ -1,0 +1,5 @@
+pub mod RecordsLeft
+pub mod DigitsGrow
+pub mod Rows
+pub mod WholeLists
+mod WorkedFiles

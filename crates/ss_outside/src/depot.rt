@@ -1,0 +1,12 @@
+//! The durable store.
+
+ghost use Rattle.std.specs.Prelude.{◌≡◌, ℕ};
+
+/// A durable store. As yet it has nothing but its count of faults.
+pub trait Depot: Drop {
+    ghost count: { Self → ℕ };
+
+    /// How many faults there were. The count stays at `u64::MAX`.
+    fn faults(&self) -> u64
+        ensures { result ≡ count self.now };
+}

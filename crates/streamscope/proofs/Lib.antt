@@ -1,0 +1,4 @@
+pub mod Ends
+pub mod Output
+pub mod Puts
+pub mod Texts

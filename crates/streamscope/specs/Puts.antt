@@ -1,0 +1,28 @@
+-- What is put to the outputs.
+use Rattle.std.specs.Prelude.{◌≡◌, ℕ, ◌-◌, List, [], ◌∷◌, ◌++◌, length, take, Option, option_map, if◌then◌else◌, bytes_eq}
+
+-- bytes that are put to a name
+pub record Put : Type 0 where
+  pub name : List ℕ
+  pub bytes : List ℕ
+
+abbrev pub put_of : List ℕ → List ℕ → Put
+put_of name bytes = record { name = name; bytes = bytes }
+
+-- the bytes of one name, in the order of the puts
+abbrev pub bytes_to : List ℕ → List Put → List ℕ
+bytes_to name [] = []
+bytes_to name (put ∷ puts) = (if bytes_eq name put.name then put.bytes else []) ++ bytes_to name puts
+
+-- the first n bytes of the puts
+abbrev pub first_bytes : ℕ → List Put → List Put
+first_bytes n [] = []
+first_bytes n (put ∷ puts) = record put { bytes = take n put.bytes } ∷ first_bytes (n - length put.bytes) puts
+
+-- the puts stand behind what each name had, and nothing else changed
+abbrev pub Puts : (List ℕ → Option (List ℕ)) → (List ℕ → Option (List ℕ)) → List Put → Type 0
+Puts old new puts = (name : List ℕ) → new name ≡ option_map (λ held. held ++ bytes_to name puts) (old name)
+
+-- the same of the first bytes of the puts, perhaps of all or of none
+abbrev pub PutsPart : (List ℕ → Option (List ℕ)) → (List ℕ → Option (List ℕ)) → List Put → Type 0
+PutsPart old new puts = (n : ℕ) × Puts old new (first_bytes n puts)

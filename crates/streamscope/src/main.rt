@@ -1,0 +1,50 @@
+//! The program `streamscope`.
+#![tactic(auto)]
+
+mod fault;
+mod outside;
+mod perform;
+mod read;
+mod run;
+#[cfg(test)]
+mod tests;
+mod words;
+mod write;
+
+use crate::fault::Fault;
+use crate::outside::Outside;
+use crate::perform::{perform, refuse};
+use ss_outside::{FileInputs, FileOutputs, MemDepot};
+use std::process::ExitCode;
+use std::{env, io};
+
+/// The words after the program's name.
+fn words_of(rt: &HostRuntime) -> io::Result<Vec<String>> {
+    let mut words = Vec::new(rt.alloc());
+    for word in env::args(rt)?.skip(1) {
+        words.push(word)?;
+    }
+    Ok(words)
+}
+
+fn main(rt: HostRuntime) -> ExitCode {
+    let mut outside = Outside {
+        inputs: FileInputs::new(&rt),
+        outputs: FileOutputs::new(&rt),
+        depot: MemDepot::new(),
+    };
+    let status = match words_of(&rt) {
+        Ok(words) => perform(rt.alloc(), words.as_slice(), outside).status,
+        Err(error) => refuse(rt.alloc(), &[], &mut outside.outputs, fault_of(&error)),
+    };
+    ExitCode::from(status)
+}
+
+/// Why there are no words: want of memory, or words that are no text.
+fn fault_of(error: &io::Error) -> Fault {
+    if error.kind() == io::ErrorKind::OutOfMemory {
+        Fault::Memory
+    } else {
+        Fault::Usage
+    }
+}

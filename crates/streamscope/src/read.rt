@@ -1,0 +1,65 @@
+ghost use Rattle.std.specs.Prelude.{◌≡◌, ◌≤◌, IfOk, IfErr, IfErr};
+ghost use Rattle.ss_elem.specs.Validity.{Whole};
+ghost use Rattle.ss_outside.specs.Told.{Same};
+ghost use Rattle.streamscope.specs.Run.{FileSaysJob, FileHasEvents};
+ghost use Rattle.streamscope.specs.Read.{IsJobCause, IsEventsCause};
+
+use ss_elem::Element;
+use ss_events::{EventFault, EventsFault, Late, read_events};
+use ss_job::{Job, JobFault, JobsFault, read_job};
+use ss_outside::{InputFault, Inputs};
+use std::alloc::Global;
+
+/// Why a file gave no value: a fault of its bytes, of the device, or want of memory.
+#[derive(Drop)]
+pub(crate) enum ReadFault<F> {
+    At(F),
+    Unread,
+    Memory,
+}
+
+/// The job that a file says.
+pub(crate) fn read_job_file<I: Inputs>(
+    alloc: Global,
+    inputs: &mut I,
+    file: &str,
+) -> Result<Job, ReadFault<JobFault>>
+    ensures job { IfOk result (FileSaysJob (I.bytes inputs.old) file.now) }
+    ensures refused { IfErr result (IsJobCause (I.bytes inputs.old) file.now (I.count inputs.old) (I.count inputs.new)) }
+    ensures told { Same (I.bytes inputs.old) (I.bytes inputs.new) }
+    ensures counts { I.count inputs.old ≤ I.count inputs.new }
+{
+    let mut bytes = Vec::new(alloc);
+    match inputs.read(file, &mut bytes) {
+        Ok(()) => match read_job(alloc, bytes.as_slice()) {
+            Ok(job) => Ok(job),
+            Err(JobsFault::At(fault)) => Err(ReadFault::At(fault)),
+            Err(JobsFault::Memory) => Err(ReadFault::Memory),
+        },
+        Err(InputFault::Failed) => Err(ReadFault::Unread),
+        Err(InputFault::Memory) => Err(ReadFault::Memory),
+    }
+}
+
+/// The elements that a file of events has.
+pub(crate) fn read_event_file<I: Inputs>(
+    alloc: Global,
+    inputs: &mut I,
+    file: &str,
+) -> Result<Vec<Element>, ReadFault<EventFault>>
+    ensures events { IfOk result (λ list. FileHasEvents (I.bytes inputs.old) file.now list.items) }
+    ensures refused { IfErr result (IsEventsCause (I.bytes inputs.old) file.now (I.count inputs.old) (I.count inputs.new)) }
+    ensures told { Same (I.bytes inputs.old) (I.bytes inputs.new) }
+    ensures counts { I.count inputs.old ≤ I.count inputs.new }
+{
+    let mut bytes = Vec::new(alloc);
+    match inputs.read(file, &mut bytes) {
+        Ok(()) => match read_events(alloc, bytes.as_slice(), Late::Refuse) {
+            Ok(list) => Ok(list),
+            Err(EventsFault::At(fault)) => Err(ReadFault::At(fault)),
+            Err(EventsFault::Memory) => Err(ReadFault::Memory),
+        },
+        Err(InputFault::Failed) => Err(ReadFault::Unread),
+        Err(InputFault::Memory) => Err(ReadFault::Memory),
+    }
+}

@@ -1,0 +1,45 @@
+ghost use Rattle.std.specs.Prelude.{◌≡◌, ◌≤◌, List, ℕ, map, OnOk, IfErr, string_bytes};
+ghost use Rattle.ss_outside.specs.Told.{Same};
+ghost use Rattle.streamscope.specs.Ends.{Stops, course_of};
+ghost use Rattle.streamscope.specs.Run.{Ran};
+
+use crate::fault::Fault;
+use crate::read::{ReadFault, read_event_file, read_job_file};
+use crate::words::job_file_of;
+use crate::write::write_output;
+use ss_outside::{Inputs, Outputs, PutFault};
+use std::alloc::Global;
+
+/// Does what the words say.
+pub(crate) fn run<I: Inputs, O: Outputs>(
+    alloc: Global,
+    words: &[String],
+    inputs: &mut I,
+    outputs: &mut O,
+) -> Result<(), Fault>
+    ensures whole { OnOk result (Ran (map string_bytes words.now) (I.bytes inputs.old) (O.bytes outputs.old) (O.bytes outputs.new)) }
+    ensures fault { IfErr result (Stops (map string_bytes words.now) (course_of (I.bytes inputs.old) (I.count inputs.old) (I.count inputs.new) (O.count outputs.old) (O.count outputs.new)) (O.bytes outputs.old) (O.bytes outputs.new)) }
+    ensures input_counts { I.count inputs.old ≤ I.count inputs.new }
+    ensures output_counts { O.count outputs.old ≤ O.count outputs.new }
+{
+    let Some(file) = job_file_of(words) else {
+        return Err(Fault::Usage);
+    };
+    let job = match read_job_file(alloc, inputs, file) {
+        Ok(job) => job,
+        Err(ReadFault::At(fault)) => return Err(Fault::Job(fault)),
+        Err(ReadFault::Unread) => return Err(Fault::JobUnread),
+        Err(ReadFault::Memory) => return Err(Fault::Memory),
+    };
+    let list = match read_event_file(alloc, inputs, job.file(0)) {
+        Ok(list) => list,
+        Err(ReadFault::At(fault)) => return Err(Fault::Events(job, fault)),
+        Err(ReadFault::Unread) => return Err(Fault::SourceUnread(job)),
+        Err(ReadFault::Memory) => return Err(Fault::Memory),
+    };
+    match write_output(alloc, outputs, &job, list.as_slice()) {
+        Ok(()) => Ok(()),
+        Err(PutFault::Failed) => Err(Fault::Output),
+        Err(PutFault::Memory) => Err(Fault::Memory),
+    }
+}
