@@ -1,0 +1,12 @@
+pub mod Prefixes
+pub mod Each
+pub mod Steps
+pub mod Merging
+pub mod Counts
+pub mod Lows
+pub mod Rows
+pub mod Outputs
+pub mod Streams
+pub mod LeastBound
+pub mod Ends
+pub mod Arriving

@@ -1,0 +1,13 @@
+pub mod Bound
+pub mod Segments
+pub mod Merge
+pub mod Low
+pub mod Window
+pub mod Join
+pub mod Emit
+pub mod Meaning
+pub mod Positions
+pub mod Examples
+pub mod WrongMeanings
+pub mod Jobs
+pub mod Laws

@@ -1,0 +1,60 @@
+ghost use Rattle.ss_meaning.specs.Laws.{BoundOfValid, MergeKeepsEachInput, ArrivalsFollow, ArrivalsMayFollow, LeastBoundGoesNext, LowIsBelowBounds, LowNeverFalls, LowIsTopAtTheEnd, WindowEndsHaveRows, WindowKeysHaveRows};
+ghost use Rattle.ss_meaning.specs.Laws.{OutputGrowsByEmit, OutputOnlyGrows, PositionsAddUp, PositionsNeverFall, OutNeverFalls, OutAtTheEnd, MeaningByInputs, MeaningIsWhole};
+
+/// The bound of a list that keeps the rules of a stream is the one that those rules keep track of.
+pub fn bound_is_that_of_valid_lists()
+    ensures { BoundOfValid }
+{}
+
+/// A merge of whole streams has exactly their elements, those of each input in their order.
+pub fn merge_keeps_each_input()
+    ensures all { MergeKeepsEachInput }
+    ensures next { ArrivalsFollow }
+    ensures follows { ArrivalsMayFollow }
+{}
+
+/// A merge goes on with the input of the least bound, and of equal bounds with the lowest input.
+pub fn least_bound_goes_next()
+    ensures { LeastBoundGoesNext }
+{}
+
+/// The least of the inputs' bounds never falls, and is above every time just where all has arrived.
+pub fn low_never_falls()
+    ensures least { LowIsBelowBounds }
+    ensures rises { LowNeverFalls }
+    ensures end { LowIsTopAtTheEnd }
+{}
+
+/// A window is given at each of its ends that has a row, and there for each key of those rows.
+pub fn windows_with_rows_are_given()
+    ensures ends { WindowEndsHaveRows }
+    ensures keys { WindowKeysHaveRows }
+{}
+
+/// What is given for one more arrival comes behind what was given before it.
+pub fn output_only_grows()
+    ensures step { OutputGrowsByEmit }
+    ensures prefix { OutputOnlyGrows }
+{}
+
+/// The counts of a vertex's inputs add up to the elements that it has taken.
+pub fn positions_add_up()
+    ensures { PositionsAddUp }
+{}
+
+/// The counts of a vertex never fall as it takes more, and end with its whole stream.
+pub fn counts_never_fall()
+    ensures pos { PositionsNeverFall }
+    ensures out { OutNeverFalls }
+    ensures end { OutAtTheEnd }
+{}
+
+/// The stream of each vertex is what the vertex makes of the streams that it reads.
+pub fn meaning_is_made_of_the_inputs()
+    ensures { MeaningByInputs }
+{}
+
+/// The stream of each vertex of each job keeps the rules of a stream, ends, and has times below 2^63.
+pub fn meaning_is_whole()
+    ensures { MeaningIsWhole }
+{}
