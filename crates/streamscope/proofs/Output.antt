@@ -1,10 +1,10 @@
 -- Where the output of a run goes.
-use Rattle.std.proofs.Common.{◌≡◌, Bool, true, false, List, [], ◌∷◌, length, codes, refl}
+use Rattle.std.proofs.Common.{◌≡◌, true, false, List, [], ◌∷◌, length, codes, refl}
 use Rattle.std.specs.Str.{bytes_eq}
 use Rattle.ss_elem.specs.declared.element.Element.{Element}
 use Rattle.ss_elem.specs.Line.{text_of}
 use Rattle.ss_job.specs.JobText.{JobText}
-use Rattle.streamscope.specs.Puts.{Put, put_of}
+use Rattle.streamscope.specs.Puts.{put_of}
 use Rattle.streamscope.specs.Run.{output_of, summary_of}
 
 pub output_of-two : (job : JobText) (list : List Element) → bytes_eq job.sink.file (codes "-") ≡ false →

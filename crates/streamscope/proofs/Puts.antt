@@ -1,15 +1,11 @@
 -- What several puts come to.
-use Rattle.std.proofs.Common.{◌≡◌, ℕ, ◌+◌, ◌-◌, ◌<◌, ◌≤◌, Bool, true, false, List, [], ◌∷◌, ◌++◌, length, take, drop, Option, Some, None, if◌then◌else◌, refl, sym, ap, ◌∙◌, subst, append_assoc, arith}
+use Rattle.std.proofs.Common.{◌≡◌, ℕ, ◌+◌, ◌-◌, Bool, true, false, List, [], ◌∷◌, ◌++◌, length, take, Option, Some, None, if◌then◌else◌, refl, sym, ap, ◌∙◌, subst, append_assoc, arith}
 use Rattle.std.proofs.Math.Seq.{take-append_seam}
 use Rattle.std.proofs.lemmas.List.{append-nil, length-append, take_all}
 use Rattle.std.specs.Option.{option_map}
 use Rattle.std.specs.Str.{bytes_eq}
-use Rattle.ss_outside.specs.Told.{Same, Appends, AppendsPart}
+use Rattle.ss_outside.specs.Told.{Telling, Same, Appends, AppendsPart}
 use Rattle.streamscope.specs.Puts.{Put, put_of, bytes_to, first_bytes, Puts, PutsPart}
-
--- what names have, where it is told
-abbrev pub Held : Type 0
-Held = List ℕ → Option (List ℕ)
 
 abbrev pub behind : List ℕ → Option (List ℕ) → Option (List ℕ)
 behind more held = option_map (λ bytes. bytes ++ more) held
@@ -27,37 +23,35 @@ pub chosen-chosen : (b : Bool) (x y : List ℕ) (o p q : Option (List ℕ)) →
 chosen-chosen true x y o p q h k = k ∙ ap (behind y) h ∙ behind-behind x y o
 chosen-chosen false x y o p q h k = k ∙ h
 
-pub Appends-trans : (a b c : Held) (at x y : List ℕ) → Appends a b at x → Appends b c at y → Appends a c at (x ++ y)
+pub Appends-trans : (a b c : Telling) (at x y : List ℕ) → Appends a b at x → Appends b c at y → Appends a c at (x ++ y)
 Appends-trans a b c at x y h k = λ name. chosen-chosen (bytes_eq name at) x y (a name) (b name) (c name) (h name) (k name)
 
 pub chosen-nil : (b : Bool) (o : Option (List ℕ)) → o ≡ (if b then behind [] o else o)
 chosen-nil true o = sym (behind-nil o)
 chosen-nil false o = refl
 
-pub Appends-nil : (a b : Held) (at : List ℕ) → Same a b → Appends a b at []
+pub Appends-nil : (a b : Telling) (at : List ℕ) → Same a b → Appends a b at []
 Appends-nil a b at h = λ name. h name ∙ chosen-nil (bytes_eq name at) (a name)
 
-pub AppendsPart-none : (a b : Held) (at x : List ℕ) → Same a b → AppendsPart a b at x
-AppendsPart-none a b at x h = ([], x, refl, Appends-nil a b at h)
+pub Appends-same : (a b c : Telling) (at x : List ℕ) → Appends a b at x → Same b c → Appends a c at x
+Appends-same a b c at x h k = λ name. k name ∙ h name
 
-pub AppendsPart-behind : (a b c : Held) (at x y : List ℕ) → Appends a b at x → AppendsPart b c at y → AppendsPart a c at (x ++ y)
+pub AppendsPart-behind : (a b c : Telling) (at x y : List ℕ) → Appends a b at x → AppendsPart b c at y → AppendsPart a c at (x ++ y)
 AppendsPart-behind a b c at x y h (front, rest, split, k) =
     (x ++ front, rest, ap (λ (m : List ℕ). x ++ m) split ∙ sym (append_assoc x front rest), Appends-trans a b c at x front h k)
 
-pub AppendsPart-longer : (a b : Held) (at x y : List ℕ) → AppendsPart a b at x → AppendsPart a b at (x ++ y)
+pub AppendsPart-longer : (a b : Telling) (at x y : List ℕ) → AppendsPart a b at x → AppendsPart a b at (x ++ y)
 AppendsPart-longer a b at x y (front, rest, split, k) =
     (front, rest ++ y, ap (λ (m : List ℕ). m ++ y) split ∙ append_assoc front rest y, k)
 
--- ---- puts
-
-pub Puts-nil : (a : Held) → Puts a a []
+pub Puts-nil : (a : Telling) → Puts a a []
 Puts-nil a = λ name. sym (behind-nil (a name))
 
 pub chosen-is : (b : Bool) (x : List ℕ) (o : Option (List ℕ)) → (if b then behind x o else o) ≡ behind ((if b then x else []) ++ []) o
 chosen-is true x o = ap (λ (m : List ℕ). behind m o) (sym (append-nil x))
 chosen-is false x o = sym (behind-nil o)
 
-pub Puts-one : (a b : Held) (at x : List ℕ) → Appends a b at x → Puts a b (put_of at x ∷ [])
+pub Puts-one : (a b : Telling) (at x : List ℕ) → Appends a b at x → Puts a b (put_of at x ∷ [])
 Puts-one a b at x h = λ name. h name ∙ chosen-is (bytes_eq name at) x (a name)
 
 pub bytes_to-append : (name : List ℕ) (p q : List Put) → bytes_to name (p ++ q) ≡ bytes_to name p ++ bytes_to name q
@@ -66,15 +60,15 @@ bytes_to-append name (put ∷ p) q =
     ap (λ (m : List ℕ). (if bytes_eq name put.name then put.bytes else []) ++ m) (bytes_to-append name p q)
     ∙ sym (append_assoc (if bytes_eq name put.name then put.bytes else []) (bytes_to name p) (bytes_to name q))
 
-pub Puts-append : (a b c : Held) (p q : List Put) → Puts a b p → Puts b c q → Puts a c (p ++ q)
+pub Puts-append : (a b c : Telling) (p q : List Put) → Puts a b p → Puts b c q → Puts a c (p ++ q)
 Puts-append a b c p q h k = λ name.
     k name ∙ ap (behind (bytes_to name q)) (h name) ∙ behind-behind (bytes_to name p) (bytes_to name q) (a name)
     ∙ ap (λ (m : List ℕ). behind m (a name)) (sym (bytes_to-append name p q))
 
-abbrev pub none_of : List ℕ
-none_of = []
+abbrev pub no_text : List ℕ
+no_text = []
 
-pub if_nil : (b : Bool) → (if b then none_of else none_of) ≡ none_of
+pub if_nil : (b : Bool) → (if b then no_text else no_text) ≡ no_text
 if_nil true = refl
 if_nil false = refl
 
@@ -82,9 +76,9 @@ pub no_bytes : (name : List ℕ) (p : List Put) → bytes_to name (first_bytes 0
 no_bytes name [] = refl
 no_bytes name (put ∷ p) =
     let none : 0 - length put.bytes ≡ 0 = omega arith in
-    rw (none, no_bytes name p) (append-nil (if bytes_eq name put.name then none_of else none_of) ∙ if_nil (bytes_eq name put.name))
+    rw (none, no_bytes name p) (append-nil (if bytes_eq name put.name then no_text else no_text) ∙ if_nil (bytes_eq name put.name))
 
-pub Puts-same : (a b : Held) (p q : List Put) → ((name : List ℕ) → bytes_to name p ≡ bytes_to name q) → Puts a b p → Puts a b q
+pub Puts-same : (a b : Telling) (p q : List Put) → ((name : List ℕ) → bytes_to name p ≡ bytes_to name q) → Puts a b p → Puts a b q
 Puts-same a b p q same h = λ name. h name ∙ ap (λ (m : List ℕ). behind m (a name)) (same name)
 
 -- a part of the first put's bytes is a part of all
@@ -95,7 +89,7 @@ first_bytes-head name at front rest p =
     let all : take (length front) (front ++ rest) ≡ front = take-append_seam front rest in
     rw (none, all, no_bytes name p) refl
 
-pub PutsPart-head : (a b : Held) (at x : List ℕ) (p : List Put) → AppendsPart a b at x → PutsPart a b (put_of at x ∷ p)
+pub PutsPart-head : (a b : Telling) (at x : List ℕ) (p : List Put) → AppendsPart a b at x → PutsPart a b (put_of at x ∷ p)
 PutsPart-head a b at x p (front, rest, split, h) = (
   length front,
   let made : Puts a b (first_bytes (length front) (put_of at (front ++ rest) ∷ p)) =
@@ -105,7 +99,7 @@ PutsPart-head a b at x p (front, rest, split, h) = (
 )
 
 -- the first put whole, and a part of the others
-pub PutsPart-tail : (a b c : Held) (at x : List ℕ) (p : List Put) → Appends a b at x → PutsPart b c p → PutsPart a c (put_of at x ∷ p)
+pub PutsPart-tail : (a b c : Telling) (at x : List ℕ) (p : List Put) → Appends a b at x → PutsPart b c p → PutsPart a c (put_of at x ∷ p)
 PutsPart-tail a b c at x p h (n, k) = (
   length x + n,
   let left : length x + n - length x ≡ n = omega arith in
@@ -113,9 +107,13 @@ PutsPart-tail a b c at x p h (n, k) = (
       rw (left, all) (Puts-append a b c (put_of at x ∷ []) (first_bytes n p) (Puts-one a b at x h) k),
 )
 
-pub AppendsPart-whole : (a b : Held) (at x : List ℕ) → Appends a b at x → AppendsPart a b at x
-AppendsPart-whole a b at x h = (x, [], sym (append-nil x), h)
-
 -- all of two puts, and of the second a part
-pub PutsPart-two : (a b c : Held) (at x at_too y : List ℕ) → Appends a b at x → AppendsPart b c at_too y → PutsPart a c (put_of at x ∷ put_of at_too y ∷ [])
+pub PutsPart-two : (a b c : Telling) (at x at_too y : List ℕ) → Appends a b at x → AppendsPart b c at_too y → PutsPart a c (put_of at x ∷ put_of at_too y ∷ [])
 PutsPart-two a b c at x at_too y h k = PutsPart-tail a b c at x (put_of at_too y ∷ []) h (PutsPart-head b c at_too y [] k)
+
+pub Appends-part : (a b : Telling) (at x : List ℕ) → AppendsPart a b at x → (n : ℕ) × Appends a b at (take n x)
+Appends-part a b at x (front, rest, split, h) = (
+  length front,
+  let all : front ≡ take (length front) x = rw split (sym (take-append_seam front rest)) in
+      subst (Appends a b at) all h,
+)

@@ -3,8 +3,8 @@ use Rattle.std.proofs.Common.{◌≡◌, ℕ, ◌+◌, ◌<◌, List, [], ◌∷
 use Rattle.std.proofs.lemmas.List.{append-nil, take_more, take-append-drop}
 use Rattle.ss_elem.specs.declared.element.Element.{Element}
 use Rattle.ss_elem.specs.Line.{line_of, text_of}
-use Rattle.ss_outside.specs.Told.{Appends, AppendsPart}
-use Rattle.streamscope.proofs.Puts.{Held, Appends-trans, AppendsPart-behind, AppendsPart-longer}
+use Rattle.ss_outside.specs.Told.{Telling, Appends, AppendsPart}
+use Rattle.streamscope.proofs.Puts.{Appends-trans, AppendsPart-behind, AppendsPart-longer}
 
 pub text_of-append : (xs ys : List Element) → text_of (xs ++ ys) ≡ text_of xs ++ text_of ys
 text_of-append [] ys = refl
@@ -20,7 +20,7 @@ text_of-rest xs i d h =
     ∙ ap (λ (m : List ℕ). m ++ text_of (drop (i + 1) xs)) (text_of-more xs i d h)
 
 -- one more line is put
-pub lines-more : (a b c : Held) (file line : List ℕ) (xs : List Element) (i : ℕ) (x : Element) → i < length xs → x ≡ get_or xs i x → line ≡ line_of x →
+pub lines-more : (a b c : Telling) (file line : List ℕ) (xs : List Element) (i : ℕ) (x : Element) → i < length xs → x ≡ get_or xs i x → line ≡ line_of x →
     Appends a b file (text_of (take i xs)) → Appends b c file line → Appends a c file (text_of (take (i + 1) xs))
 lines-more a b c file line xs i x inside item text h k =
     let whole : text_of (take i xs) ++ line ≡ text_of (take (i + 1) xs) =
@@ -28,7 +28,7 @@ lines-more a b c file line xs i x inside item text h k =
     subst (Appends a c file) whole (Appends-trans a b c file (text_of (take i xs)) line h k)
 
 -- a part of the next line is put
-pub lines-part : (a b c : Held) (file line : List ℕ) (xs : List Element) (i : ℕ) (x : Element) → i < length xs → x ≡ get_or xs i x → line ≡ line_of x →
+pub lines-part : (a b c : Telling) (file line : List ℕ) (xs : List Element) (i : ℕ) (x : Element) → i < length xs → x ≡ get_or xs i x → line ≡ line_of x →
     Appends a b file (text_of (take i xs)) → AppendsPart b c file line → AppendsPart a c file (text_of xs)
 lines-part a b c file line xs i x inside item text h k =
     let whole : (text_of (take i xs) ++ line) ++ text_of (drop (i + 1) xs) ≡ text_of xs =

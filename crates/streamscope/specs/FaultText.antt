@@ -1,10 +1,11 @@
 -- The status and the line of each fault.
-use Rattle.std.specs.Prelude.{ℕ, List, [], ◌∷◌, ◌++◌, codes}
+use Rattle.std.specs.Prelude.{ℕ, List, [], ◌++◌, unwrap_or, codes}
 use Rattle.std.specs.Fmt.{decimal}
 use Rattle.ss_events.specs.declared.fault.EventWhy.{EventWhy}
 use Rattle.ss_events.specs.declared.fault.EventWhy.TheVariants.{NotBuilt as EventsNotBuilt}
 use Rattle.ss_job.specs.declared.fault.JobWhy.{JobWhy}
 use Rattle.ss_job.specs.declared.fault.JobWhy.TheVariants.{NotToml, NotBuilt}
+use Rattle.streamscope.specs.Words.{job_file_of}
 use Rattle.streamscope.specs.declared.fault.Fault.{Fault}
 use Rattle.streamscope.specs.declared.fault.Fault.TheVariants.{Usage, Job, Events, JobUnread, SourceUnread, Output, Memory}
 
@@ -24,20 +25,21 @@ job_why NotBuilt = codes "not built yet"
 abbrev pub event_why : EventWhy → List ℕ
 event_why EventsNotBuilt = codes "not built yet"
 
--- the file that the words name first as their subject
-abbrev pub subject_of : List (List ℕ) → List ℕ
-subject_of (action ∷ subject ∷ rest) = subject
-subject_of _ = []
+abbrev pub job_text : List ℕ → List ℕ
+job_text why = codes "streamscope: job: " ++ why ++ codes "\n"
 
 abbrev pub events_text : List ℕ → ℕ → List ℕ → List ℕ
 events_text file row why = codes "streamscope: events " ++ file ++ codes ": row " ++ decimal row ++ codes ": " ++ why ++ codes "\n"
 
+abbrev pub unread_text : List ℕ → List ℕ
+unread_text file = codes "streamscope: cannot read " ++ file ++ codes "\n"
+
 -- the line on standard error
 abbrev pub fault_text : List (List ℕ) → Fault → List ℕ
 fault_text words Usage = codes "usage: streamscope check|plain|play|run|gen SUBJECT [--workers N] [--failures F] [--schedule F] [--trace F]\n"
-fault_text words (Job fault) = codes "streamscope: job: " ++ job_why fault.why ++ codes "\n"
+fault_text words (Job fault) = job_text (job_why fault.why)
 fault_text words (Events job fault) = events_text job.source.file fault.row (event_why fault.why)
-fault_text words JobUnread = codes "streamscope: cannot read " ++ subject_of words ++ codes "\n"
-fault_text words (SourceUnread job) = codes "streamscope: cannot read " ++ job.source.file ++ codes "\n"
+fault_text words JobUnread = unread_text (unwrap_or (job_file_of words) [])
+fault_text words (SourceUnread job) = unread_text job.source.file
 fault_text words Output = codes "streamscope: output fault\n"
 fault_text words Memory = codes "streamscope: out of memory\n"

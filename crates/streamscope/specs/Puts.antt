@@ -1,5 +1,6 @@
 -- What is put to the outputs.
-use Rattle.std.specs.Prelude.{◌≡◌, ℕ, ◌-◌, List, [], ◌∷◌, ◌++◌, length, take, Option, option_map, if◌then◌else◌, bytes_eq}
+use Rattle.std.specs.Prelude.{◌≡◌, ℕ, ◌-◌, List, [], ◌∷◌, ◌++◌, length, take, option_map, if◌then◌else◌, bytes_eq}
+use Rattle.ss_outside.specs.Told.{Telling}
 
 -- bytes that are put to a name
 pub record Put : Type 0 where
@@ -20,9 +21,9 @@ first_bytes n [] = []
 first_bytes n (put ∷ puts) = record put { bytes = take n put.bytes } ∷ first_bytes (n - length put.bytes) puts
 
 -- the puts stand behind what each name had, and nothing else changed
-abbrev pub Puts : (List ℕ → Option (List ℕ)) → (List ℕ → Option (List ℕ)) → List Put → Type 0
+abbrev pub Puts : Telling → Telling → List Put → Type 0
 Puts old new puts = (name : List ℕ) → new name ≡ option_map (λ held. held ++ bytes_to name puts) (old name)
 
 -- the same of the first bytes of the puts, perhaps of all or of none
-abbrev pub PutsPart : (List ℕ → Option (List ℕ)) → (List ℕ → Option (List ℕ)) → List Put → Type 0
+abbrev pub PutsPart : Telling → Telling → List Put → Type 0
 PutsPart old new puts = (n : ℕ) × Puts old new (first_bytes n puts)

@@ -1,6 +1,7 @@
-ghost use Rattle.std.specs.Prelude.{◌≡◌, IfOk, string_bytes, map};
-ghost use Rattle.streamscope.specs.FaultText.{event_why, events_text, fault_text, job_why, status_of, subject_of};
+ghost use Rattle.std.specs.Prelude.{◌≡◌, ℕ, List, IfOk, IfSome, string_bytes, map};
+ghost use Rattle.streamscope.specs.FaultText.{event_why, events_text, fault_text, job_text, job_why, status_of, unread_text};
 
+use crate::words::job_file_of;
 use ss_events::{EventFault, EventWhy};
 use ss_job::{Job, JobFault, JobWhy};
 use std::alloc::{AllocError, Global};
@@ -13,11 +14,11 @@ pub(crate) enum Fault {
     /// The bytes of the job file say no job.
     Job(JobFault),
     /// The bytes of the source's file are no events.
-    Events(Job, EventFault),
+    Events { job: Job, fault: EventFault },
     /// The job file could not be read.
     JobUnread,
     /// The source's file could not be read.
-    SourceUnread(Job),
+    SourceUnread { job: Job },
     /// An output failed.
     Output,
     /// Memory ran out.
@@ -31,8 +32,8 @@ pub(crate) fn status_of(fault: &Fault) -> u8
     match fault {
         Fault::Usage => 2,
         Fault::Job(_) => 3,
-        Fault::Events(_, _) => 4,
-        Fault::JobUnread | Fault::SourceUnread(_) => 5,
+        Fault::Events { .. } => 4,
+        Fault::JobUnread | Fault::SourceUnread { .. } => 5,
         Fault::Output => 7,
         Fault::Memory => 10,
     }
@@ -41,28 +42,48 @@ pub(crate) fn status_of(fault: &Fault) -> u8
 const USAGE: &str =
     "usage: streamscope check|plain|play|run|gen SUBJECT [--workers N] [--failures F] [--schedule F] [--trace F]\n";
 
-/// The line on standard error that tells the fault.
-pub(crate) fn fault_text(
-    alloc: Global,
-    words: &[String],
-    fault: &Fault,
-) -> Result<String, AllocError>
-    ensures { IfOk result (λ text. string_bytes text ≡ fault_text (map string_bytes words.now) fault.now) }
+/// The line of a fault that names nothing, which takes no memory.
+pub(crate) fn fixed_text(fault: &Fault) -> Option<&'static str>
+    ensures { IfSome result (λ text. (words : List (List ℕ)) → fault_text words fault.now ≡ text.now) }
 {
     match fault {
-        Fault::Usage => String::from_str(alloc, USAGE),
-        Fault::Job(fault) => format!(in alloc; "streamscope: job: {}\n", job_why(fault.why)),
-        Fault::Events(job, fault) => events_text(
+        Fault::Usage => Some(USAGE),
+        Fault::Output => Some("streamscope: output fault\n"),
+        Fault::Memory => Some("streamscope: out of memory\n"),
+        Fault::Job(_) | Fault::Events { .. } | Fault::JobUnread | Fault::SourceUnread { .. } =>
+            None,
+    }
+}
+
+/// The line of a fault that names a file or a cause, where memory is left for it.
+pub(crate) fn named_text(alloc: Global, words: &[String], fault: &Fault) -> Option<String>
+    ensures { IfSome result (λ text. string_bytes text ≡ fault_text (map string_bytes words.now) fault.now) }
+{
+    let text = match fault {
+        Fault::Usage | Fault::Output | Fault::Memory => return None,
+        Fault::Job(fault) => job_text(alloc, job_why(fault.why)),
+        Fault::Events { job, fault } => events_text(
             alloc,
             job.file(0),
             fault.row,
             event_why(fault.why),
         ),
-        Fault::JobUnread => format!(in alloc; "streamscope: cannot read {}\n", subject_of(words)),
-        Fault::SourceUnread(job) => format!(in alloc; "streamscope: cannot read {}\n", job.file(0)),
-        Fault::Output => String::from_str(alloc, "streamscope: output fault\n"),
-        Fault::Memory => String::from_str(alloc, "streamscope: out of memory\n"),
-    }
+        Fault::JobUnread => unread_text(alloc, job_file_of(words).unwrap_or("")),
+        Fault::SourceUnread { job } => unread_text(alloc, job.file(0)),
+    };
+    text.ok()
+}
+
+fn job_text(alloc: Global, why: &str) -> Result<String, AllocError>
+    ensures { IfOk result (λ text. string_bytes text ≡ job_text why.now) }
+{
+    format!(in alloc; "streamscope: job: {why}\n")
+}
+
+fn unread_text(alloc: Global, file: &str) -> Result<String, AllocError>
+    ensures { IfOk result (λ text. string_bytes text ≡ unread_text file.now) }
+{
+    format!(in alloc; "streamscope: cannot read {file}\n")
 }
 
 fn events_text(alloc: Global, file: &str, row: u64, why: &str) -> Result<String, AllocError>
@@ -85,15 +106,5 @@ fn event_why(why: EventWhy) -> &'static str
 {
     match why {
         EventWhy::NotBuilt => "not built yet",
-    }
-}
-
-/// The second word, where there is one.
-fn subject_of(words: &[String]) -> &str
-    ensures { result.now ≡ subject_of (map string_bytes words.now) }
-{
-    match words {
-        [] | [_] => "",
-        [_, subject, ..] => subject.as_str(),
     }
 }

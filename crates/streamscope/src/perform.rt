@@ -1,19 +1,12 @@
-ghost use Rattle.std.specs.Prelude.{◌≡◌, ◌↔◌, ℕ, List, Option, None, Ok, Err, ◌≤◌, codes, map, string_bytes};
-ghost use Rattle.ss_elem.specs.declared.element.Element.{Element};
-ghost use Rattle.ss_job.specs.declared.fault.JobFault.{JobFault};
-ghost use Rattle.ss_job.specs.JobText.{JobText};
-ghost use Rattle.ss_events.specs.declared.fault.EventFault.{EventFault};
-ghost use Rattle.streamscope.specs.Ends.{Comes, Ends, TellsEvents, TellsJobFault, course_of};
-ghost use Rattle.ss_outside.specs.Told.{AppendsPart};
+ghost use Rattle.std.specs.Prelude.{◌≡◌, ◌≤◌, map, string_bytes};
+ghost use Rattle.streamscope.specs.Ends.{Ends, TellsLine, seen};
 ghost use Rattle.streamscope.specs.FaultText.{fault_text, status_of};
-ghost use Rattle.streamscope.specs.Words.{job_file_of};
 
-use crate::fault::{Fault, fault_text, status_of};
+use crate::fault::{Fault, fixed_text, named_text, status_of};
 use crate::outside::{Done, Outside};
 use crate::run::run;
-use crate::write::put_bytes;
 use ss_job::one_reading;
-use ss_outside::{Depot, Inputs, Outputs};
+use ss_outside::{Depot, Inputs, Outputs, PutFault};
 use std::alloc::Global;
 
 /// Does what the words after the program's name say, and ends with a status:
@@ -35,14 +28,11 @@ pub fn perform<I: Inputs, O: Outputs, D: Depot>(
     words: &[String],
     outside: Outside<I, O, D>,
 ) -> Done<I, O, D>
-    ensures ends { Ends (map string_bytes words.now) (course_of (I.bytes outside.inputs) (I.count outside.inputs) (I.count result.outside.inputs) (O.count outside.outputs) (O.count result.outside.outputs)) (O.bytes outside.outputs) (O.bytes result.outside.outputs) result.status }
-    ensures usage { (result.status ≡ 2) ↔ (job_file_of (map string_bytes words.now) ≡ None) }
-    ensures job_fault { (fault : JobFault) → TellsJobFault (map string_bytes words.now) (I.bytes outside.inputs) fault
-        → Comes 3 result.status (course_of (I.bytes outside.inputs) (I.count outside.inputs) (I.count result.outside.inputs) (O.count outside.outputs) (O.count result.outside.outputs)) }
-    ensures events_fault { (job : JobText) (fault : EventFault) → TellsEvents (map string_bytes words.now) (I.bytes outside.inputs) job (Err fault)
-        → Comes 4 result.status (course_of (I.bytes outside.inputs) (I.count outside.inputs) (I.count result.outside.inputs) (O.count outside.outputs) (O.count result.outside.outputs)) }
-    ensures whole { (job : JobText) (list : List Element) → TellsEvents (map string_bytes words.now) (I.bytes outside.inputs) job (Ok list)
-        → Comes 0 result.status (course_of (I.bytes outside.inputs) (I.count outside.inputs) (I.count result.outside.inputs) (O.count outside.outputs) (O.count result.outside.outputs)) }
+    ensures ends { Ends (map string_bytes words.now)
+        (seen (I.bytes outside.inputs) (O.bytes outside.outputs) (I.count outside.inputs) (O.count outside.outputs))
+        (seen (I.bytes result.outside.inputs) (O.bytes result.outside.outputs)
+        (I.count result.outside.inputs) (O.count result.outside.outputs))
+        result.status }
     ensures depot { result.outside.depot ≡ outside.depot }
 {
     let Outside {
@@ -51,7 +41,6 @@ pub fn perform<I: Inputs, O: Outputs, D: Depot>(
         depot,
     } = outside;
     let status = conclude(alloc, words, &mut inputs, &mut outputs);
-    one_reading();
     Done {
         status,
         outside: Outside {
@@ -62,15 +51,20 @@ pub fn perform<I: Inputs, O: Outputs, D: Depot>(
     }
 }
 
-/// Does what the words say, and tells the fault where one ended it.
+/// Does what the words say, and tells the fault where one stopped it.
 fn conclude<I: Inputs, O: Outputs>(
     alloc: Global,
     words: &[String],
     inputs: &mut I,
     outputs: &mut O,
 ) -> u8
-    ensures { Ends (map string_bytes words.now) (course_of (I.bytes inputs.old) (I.count inputs.old) (I.count inputs.new) (O.count outputs.old) (O.count outputs.new)) (O.bytes outputs.old) (O.bytes outputs.new) result }
+    ensures { Ends (map string_bytes words.now)
+        (seen (I.bytes inputs.old) (O.bytes outputs.old) (I.count inputs.old) (O.count outputs.old))
+        (seen (I.bytes inputs.new) (O.bytes outputs.new) (I.count inputs.new) (O.count outputs.new))
+        result }
 {
+    // That bytes say one job or one fault is why each status comes exactly where the files call for it.
+    one_reading();
     match run(alloc, words, inputs, outputs) {
         Ok(()) => 0,
         Err(fault) => refuse(alloc, words, outputs, fault),
@@ -85,23 +79,37 @@ pub(crate) fn refuse<O: Outputs>(
     fault: Fault,
 ) -> u8
     ensures status { result ≡ status_of fault }
-    ensures line { AppendsPart (O.bytes outputs.old) (O.bytes outputs.new) (codes "!") (fault_text (map string_bytes words.now) fault) }
+    ensures line { TellsLine (O.bytes outputs.old) (O.bytes outputs.new) (O.count outputs.old) (O.count outputs.new)
+        (fault_text (map string_bytes words.now) fault) }
     ensures counts { O.count outputs.old ≤ O.count outputs.new }
 {
     tell(alloc, words, outputs, &fault);
     status_of(&fault)
 }
 
-/// Puts the fault's line to standard error, as far as memory and the device allow.
+/// Puts the fault's line to standard error, where it takes no memory or memory is left for it.
 fn tell<O: Outputs>(alloc: Global, words: &[String], outputs: &mut O, fault: &Fault)
-    ensures line { AppendsPart (O.bytes outputs.old) (O.bytes outputs.new) (codes "!") (fault_text (map string_bytes words.now) fault.now) }
+    ensures line { TellsLine (O.bytes outputs.old) (O.bytes outputs.new) (O.count outputs.old) (O.count outputs.new)
+        (fault_text (map string_bytes words.now) fault.now) }
     ensures counts { O.count outputs.old ≤ O.count outputs.new }
 {
-    let Ok(text) = fault_text(alloc, words, fault) else {
-        return;
-    };
-    match put_bytes(outputs, "!", text.as_str().as_bytes()) {
+    match fixed_text(fault) {
+        Some(text) => put_line(outputs, text),
+        None => match named_text(alloc, words, fault) {
+            Some(text) => put_line(outputs, text.as_str()),
+            None => (),
+        },
+    }
+}
+
+/// Puts a line to standard error, as far as the device takes it.
+fn put_line<O: Outputs>(outputs: &mut O, text: &str)
+    ensures line { TellsLine (O.bytes outputs.old) (O.bytes outputs.new) (O.count outputs.old) (O.count outputs.new) text.now }
+    ensures counts { O.count outputs.old ≤ O.count outputs.new }
+{
+    match outputs.put("!", text.as_bytes()) {
         Ok(()) => (),
-        Err(_) => (),
+        Err(PutFault::Failed) => (),
+        Err(PutFault::Memory) => (),
     }
 }

@@ -1,8 +1,7 @@
-ghost use Rattle.std.specs.Prelude.{◌≡◌, ◌≤◌, IfOk, IfErr, IfErr};
-ghost use Rattle.ss_elem.specs.Validity.{Whole};
+ghost use Rattle.std.specs.Prelude.{◌≤◌, IfOk, IfErr};
 ghost use Rattle.ss_outside.specs.Told.{Same};
 ghost use Rattle.streamscope.specs.Run.{FileSaysJob, FileHasEvents};
-ghost use Rattle.streamscope.specs.Read.{IsJobCause, IsEventsCause};
+ghost use Rattle.streamscope.specs.Read.{HasEventFault, HasJobFault, IsReadCause};
 
 use ss_elem::Element;
 use ss_events::{EventFault, EventsFault, Late, read_events};
@@ -10,11 +9,14 @@ use ss_job::{Job, JobFault, JobsFault, read_job};
 use ss_outside::{InputFault, Inputs};
 use std::alloc::Global;
 
-/// Why a file gave no value: a fault of its bytes, of the device, or want of memory.
+/// Why a file gave no value.
 #[derive(Drop)]
 pub(crate) enum ReadFault<F> {
+    /// Its bytes are at fault.
     At(F),
+    /// It could not be read.
     Unread,
+    /// Memory ran out.
     Memory,
 }
 
@@ -25,7 +27,7 @@ pub(crate) fn read_job_file<I: Inputs>(
     file: &str,
 ) -> Result<Job, ReadFault<JobFault>>
     ensures job { IfOk result (FileSaysJob (I.bytes inputs.old) file.now) }
-    ensures refused { IfErr result (IsJobCause (I.bytes inputs.old) file.now (I.count inputs.old) (I.count inputs.new)) }
+    ensures refused { IfErr result (IsReadCause HasJobFault (I.bytes inputs.old) file.now (I.count inputs.old) (I.count inputs.new)) }
     ensures told { Same (I.bytes inputs.old) (I.bytes inputs.new) }
     ensures counts { I.count inputs.old ≤ I.count inputs.new }
 {
@@ -48,7 +50,7 @@ pub(crate) fn read_event_file<I: Inputs>(
     file: &str,
 ) -> Result<Vec<Element>, ReadFault<EventFault>>
     ensures events { IfOk result (λ list. FileHasEvents (I.bytes inputs.old) file.now list.items) }
-    ensures refused { IfErr result (IsEventsCause (I.bytes inputs.old) file.now (I.count inputs.old) (I.count inputs.new)) }
+    ensures refused { IfErr result (IsReadCause HasEventFault (I.bytes inputs.old) file.now (I.count inputs.old) (I.count inputs.new)) }
     ensures told { Same (I.bytes inputs.old) (I.bytes inputs.new) }
     ensures counts { I.count inputs.old ≤ I.count inputs.new }
 {

@@ -1,6 +1,6 @@
-ghost use Rattle.std.specs.Prelude.{◌≡◌, ◌≤◌, List, ℕ, map, OnOk, IfErr, string_bytes};
+ghost use Rattle.std.specs.Prelude.{◌≤◌, map, OnOk, IfErr, string_bytes};
 ghost use Rattle.ss_outside.specs.Told.{Same};
-ghost use Rattle.streamscope.specs.Ends.{Stops, course_of};
+ghost use Rattle.streamscope.specs.Ends.{Stopped, seen};
 ghost use Rattle.streamscope.specs.Run.{Ran};
 
 use crate::fault::Fault;
@@ -17,10 +17,14 @@ pub(crate) fn run<I: Inputs, O: Outputs>(
     inputs: &mut I,
     outputs: &mut O,
 ) -> Result<(), Fault>
-    ensures whole { OnOk result (Ran (map string_bytes words.now) (I.bytes inputs.old) (O.bytes outputs.old) (O.bytes outputs.new)) }
-    ensures fault { IfErr result (Stops (map string_bytes words.now) (course_of (I.bytes inputs.old) (I.count inputs.old) (I.count inputs.new) (O.count outputs.old) (O.count outputs.new)) (O.bytes outputs.old) (O.bytes outputs.new)) }
-    ensures input_counts { I.count inputs.old ≤ I.count inputs.new }
-    ensures output_counts { O.count outputs.old ≤ O.count outputs.new }
+    ensures whole { OnOk result
+        (Ran (map string_bytes words.now) (I.bytes inputs.old) (O.bytes outputs.old) (O.bytes outputs.new)) }
+    ensures fault { IfErr result (Stopped (map string_bytes words.now)
+        (seen (I.bytes inputs.old) (O.bytes outputs.old) (I.count inputs.old) (O.count outputs.old))
+        (seen (I.bytes inputs.new) (O.bytes outputs.new) (I.count inputs.new) (O.count outputs.new))) }
+    ensures files { Same (I.bytes inputs.old) (I.bytes inputs.new) }
+    ensures input_faults { I.count inputs.old ≤ I.count inputs.new }
+    ensures output_faults { O.count outputs.old ≤ O.count outputs.new }
 {
     let Some(file) = job_file_of(words) else {
         return Err(Fault::Usage);
@@ -33,8 +37,8 @@ pub(crate) fn run<I: Inputs, O: Outputs>(
     };
     let list = match read_event_file(alloc, inputs, job.file(0)) {
         Ok(list) => list,
-        Err(ReadFault::At(fault)) => return Err(Fault::Events(job, fault)),
-        Err(ReadFault::Unread) => return Err(Fault::SourceUnread(job)),
+        Err(ReadFault::At(fault)) => return Err(Fault::Events { job, fault }),
+        Err(ReadFault::Unread) => return Err(Fault::SourceUnread { job }),
         Err(ReadFault::Memory) => return Err(Fault::Memory),
     };
     match write_output(alloc, outputs, &job, list.as_slice()) {

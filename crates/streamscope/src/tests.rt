@@ -211,6 +211,40 @@ fn words_and_job_files_are_refused_with_their_line(rt: HostRuntime) -> Result<()
             left,
         )?;
     }
+    let cut = Left {
+        status: 2,
+        out: "",
+        output: "",
+        error: "usa",
+    };
+    check_left(
+        &rt,
+        rt.alloc(),
+        "a failing standard error",
+        &["run"],
+        b"",
+        b"",
+        Failing::Put(1, 3),
+        cut,
+    )?;
+    let terminal =
+        b"vertex = [{ name = 'a', op = 'source', file = 'in.csv' }, { name = 'b', op = 'sink', inputs = ['a'], file = '-' }]";
+    let shown = Left {
+        status: 0,
+        out: "",
+        output: OUTPUT,
+        error: "",
+    };
+    check_left(
+        &rt,
+        rt.alloc(),
+        "a sink on standard output",
+        run,
+        terminal,
+        EVENTS.as_bytes(),
+        Failing::Nothing,
+        shown,
+    )?;
     let absent: &[&str] = &["run", "absent.toml"];
     check_left(
         &rt,
@@ -239,13 +273,15 @@ fn each_failing_device_has_its_status_and_leaves_a_prefix(rt: HostRuntime) -> Re
         (Failing::Put(1, 0), unput("", "")),
         (Failing::Put(1, 1), unput("e", "")),
         (Failing::Put(1, 99), unput("event,5,9,k,3,0\n", "")),
+        (Failing::Put(2, 0), unput("event,5,9,k,3,0\n", "")),
+        (Failing::Put(2, 1), unput("event,5,9,k,3,0\nc", "")),
         (Failing::Put(2, 4), unput("event,5,9,k,3,0\ncti,", "")),
-        (
-            Failing::Put(3, 3),
-            unput("event,5,9,k,3,0\ncti,10\nend", ""),
-        ),
+        (Failing::Put(2, 99), unput("event,5,9,k,3,0\ncti,10\n", "")),
+        (Failing::Put(3, 0), unput("event,5,9,k,3,0\ncti,10\n", "")),
+        (Failing::Put(3, 1), unput("event,5,9,k,3,0\ncti,10\ne", "")),
+        (Failing::Put(3, 99), unput(OUTPUT, "")),
         (Failing::Put(4, 0), unput(OUTPUT, "")),
-        (Failing::Put(4, 5), unput(OUTPUT, "sink ")),
+        (Failing::Put(4, 1), unput(OUTPUT, "s")),
         (Failing::Put(4, 99), unput(OUTPUT, SUMMARY)),
         (Failing::Put(5, 0), WHOLE),
     ];

@@ -1,9 +1,9 @@
-ghost use Rattle.std.specs.Prelude.{◌≡◌, ℕ, ◌≤◌, length, OnOk, OnErr, IfOk, IsErrOf, codes, string_bytes};
+ghost use Rattle.std.specs.Prelude.{◌≡◌, ℕ, ◌≤◌, OnOk, IfOk, IsErrOf, codes, string_bytes};
 ghost use Rattle.ss_elem.specs.Line.{text_of};
 ghost use Rattle.ss_outside.specs.Faults.{Rose};
-ghost use Rattle.ss_outside.specs.Told.{Appends, AppendsPart};
+ghost use Rattle.ss_outside.specs.Told.{Same, Appends, AppendsPart};
 ghost use Rattle.streamscope.specs.Puts.{Puts, PutsPart};
-ghost use Rattle.streamscope.specs.Run.{output_of, summary_of};
+ghost use Rattle.streamscope.specs.Run.{AppendsLines, PutsLines, output_of, summary_of};
 
 use ss_elem::{Element, LineBuf, line};
 use ss_job::Job;
@@ -13,37 +13,23 @@ use std::alloc::{AllocError, Global};
 /// Puts the list's text to a file, each element's line by a put of its own.
 fn write_lines<O: Outputs>(outputs: &mut O, file: &str, list: &[Element]) -> Result<(), PutFault>
     ensures whole { OnOk result (Appends (O.bytes outputs.old) (O.bytes outputs.new) file.now (text_of list.now)) }
-    ensures part { OnErr result (AppendsPart (O.bytes outputs.old) (O.bytes outputs.new) file.now (text_of list.now)) }
+    ensures part { IsErrOf result PutFault.Failed
+        → AppendsPart (O.bytes outputs.old) (O.bytes outputs.new) file.now (text_of list.now) }
+    ensures lines { IsErrOf result PutFault.Memory
+        → AppendsLines (O.bytes outputs.old) (O.bytes outputs.new) file.now list.now }
     ensures failed { IsErrOf result PutFault.Failed → Rose (O.count outputs.old) (O.count outputs.new) }
     ensures counts { O.count outputs.old ≤ O.count outputs.new }
 {
     let mut buffer = LineBuf::new();
     for element in list {
         line(element, &mut buffer);
-        match put_bytes(outputs, file, buffer.as_slice()) {
+        match outputs.put(file, buffer.as_slice()) {
             Ok(()) => (),
-            Err(fault) => return Err(fault),
+            Err(PutFault::Failed) => return Err(PutFault::Failed),
+            Err(PutFault::Memory) => return Err(PutFault::Memory),
         }
     }
     Ok(())
-}
-
-/// Puts bytes to a name; a device that fails may take a part of them.
-pub(crate) fn put_bytes<O: Outputs>(
-    outputs: &mut O,
-    name: &str,
-    bytes: &[u8],
-) -> Result<(), PutFault>
-    ensures whole { OnOk result (Appends (O.bytes outputs.old) (O.bytes outputs.new) name.now bytes.now) }
-    ensures part { OnErr result (AppendsPart (O.bytes outputs.old) (O.bytes outputs.new) name.now bytes.now) }
-    ensures failed { IsErrOf result PutFault.Failed → Rose (O.count outputs.old) (O.count outputs.new) }
-    ensures counts { O.count outputs.old ≤ O.count outputs.new }
-{
-    match outputs.put(name, bytes) {
-        Ok(()) => Ok(()),
-        Err(PutFault::Failed) => Err(PutFault::Failed),
-        Err(PutFault::Memory) => Err(PutFault::Memory),
-    }
 }
 
 /// The line of a sink in the summary, and the summary's last line.
@@ -60,15 +46,22 @@ fn write_summary<O: Outputs>(
     name: &str,
     taken: usize,
 ) -> Result<(), PutFault>
-    ensures whole { OnOk result (Appends (O.bytes outputs.old) (O.bytes outputs.new) (codes "-") (summary_of name.now taken)) }
-    ensures part { OnErr result (AppendsPart (O.bytes outputs.old) (O.bytes outputs.new) (codes "-") (summary_of name.now taken)) }
+    ensures whole { OnOk result
+        (Appends (O.bytes outputs.old) (O.bytes outputs.new) (codes "-") (summary_of name.now taken)) }
+    ensures part { IsErrOf result PutFault.Failed
+        → AppendsPart (O.bytes outputs.old) (O.bytes outputs.new) (codes "-") (summary_of name.now taken) }
+    ensures none { IsErrOf result PutFault.Memory → Same (O.bytes outputs.old) (O.bytes outputs.new) }
     ensures failed { IsErrOf result PutFault.Failed → Rose (O.count outputs.old) (O.count outputs.new) }
     ensures counts { O.count outputs.old ≤ O.count outputs.new }
 {
     let Ok(text) = summary_of(alloc, name, taken) else {
         return Err(PutFault::Memory);
     };
-    put_bytes(outputs, "-", text.as_str().as_bytes())
+    match outputs.put("-", text.as_str().as_bytes()) {
+        Ok(()) => Ok(()),
+        Err(PutFault::Failed) => Err(PutFault::Failed),
+        Err(PutFault::Memory) => Err(PutFault::Memory),
+    }
 }
 
 /// Puts the output of a run: the sink's text to its file, and then the summary, unless the sink writes to
@@ -80,7 +73,10 @@ pub(crate) fn write_output<O: Outputs>(
     list: &[Element],
 ) -> Result<(), PutFault>
     ensures whole { OnOk result (Puts (O.bytes outputs.old) (O.bytes outputs.new) (output_of job.now list.now)) }
-    ensures part { OnErr result (PutsPart (O.bytes outputs.old) (O.bytes outputs.new) (output_of job.now list.now)) }
+    ensures part { IsErrOf result PutFault.Failed
+        → PutsPart (O.bytes outputs.old) (O.bytes outputs.new) (output_of job.now list.now) }
+    ensures lines { IsErrOf result PutFault.Memory
+        → PutsLines (O.bytes outputs.old) (O.bytes outputs.new) job.now list.now }
     ensures failed { IsErrOf result PutFault.Failed → Rose (O.count outputs.old) (O.count outputs.new) }
     ensures counts { O.count outputs.old ≤ O.count outputs.new }
 {
@@ -92,10 +88,12 @@ pub(crate) fn write_output<O: Outputs>(
             } else {
                 match write_summary(alloc, outputs, job.name(1), list.len()) {
                     Ok(()) => Ok(()),
-                    Err(fault) => Err(fault),
+                    Err(PutFault::Failed) => Err(PutFault::Failed),
+                    Err(PutFault::Memory) => Err(PutFault::Memory),
                 }
             }
         }
-        Err(fault) => Err(fault),
+        Err(PutFault::Failed) => Err(PutFault::Failed),
+        Err(PutFault::Memory) => Err(PutFault::Memory),
     }
 }
