@@ -1,7 +1,7 @@
 -- The list of a file is whole, and its times are those that a file may have.
-use Rattle.std.proofs.Common.{subst, ◌≡◌, ◌<◌, ◌≤◌, ◌+◌, ◌^◌, ℕ, List, [], ◌∷◌, Bool, true, false, Option, Some, None, refl, ap, arith, cond}
-use Rattle.std.specs.Prelude.{Result, Ok, Err, IfOk, IfSome, nat_lt, ◌&&◌, ◌==◌, length}
-use Rattle.std.specs.Option.{option_and_then}
+use Rattle.std.proofs.Common.{subst, ◌≡◌, ◌<◌, ◌≤◌, ◌+◌, ◌^◌, ℕ, List, [], ◌∷◌, ◌++◌, Bool, true, false, Option, Some, None, refl, ap, arith, cond}
+use Rattle.std.specs.Prelude.{Result, Ok, Err, IfOk, IfSome, nat_lt, nat_le, not, ◌&&◌, ◌==◌, length}
+use Rattle.std.specs.Option.{option_and_then, option_to_list}
 use Rattle.std.specs.List.{list_all}
 use Rattle.std.specs.Str.Parse.{digits_value}
 use Rattle.std.proofs.lemmas.Bool.Decides.{nat_tests}
@@ -9,16 +9,19 @@ use Rattle.csv.specs.Records.{field_at}
 use Rattle.ss_elem.specs.Validity.{Whole, bound_from, next_bound, top}
 use Rattle.ss_elem.specs.declared.element.Element.{Element}
 use Rattle.ss_elem.specs.declared.element.Element.TheVariants as element
+use Rattle.ss_elem.specs.declared.element.Event.{Event}
 use Rattle.ss_events.specs.Numbers.{is_decimal, time_of}
-use Rattle.ss_events.specs.Fields.{has_count, key_at, or_fault, time_at, value_at}
-use Rattle.ss_events.specs.Rows.{◌>>=◌, bound_after, cti_of, element_by, element_of, end_of, event_of, kind_of, row_after}
+use Rattle.ss_events.specs.Fields.{check, has_count, is_padding, key_at, or_fault, time_at, value_at, value_or_zero_at}
+use Rattle.ss_events.specs.Rows.{◌>>=◌, Given, cti_given, cti_row, end_row, event_given, event_of, event_row, is_header, kind_of, late_given, row_after, row_by, row_given}
 use Rattle.ss_events.specs.Events.{AllSourceTimes, Gives, HasSourceTimes, event_list, elements_from, ending, in_row, most_rows, row_at}
 use Rattle.ss_events.specs.declared.fault.EventFault.{EventFault}
 use Rattle.ss_events.specs.declared.fault.EventWhy.{EventWhy}
-use Rattle.ss_events.specs.declared.fault.EventWhy.TheVariants.{NotBuilt}
+use Rattle.ss_events.specs.declared.fault.EventWhy.TheVariants.{AfterEnd, BackwardCti, EmptySpan, TooManyRows}
 use Rattle.ss_events.specs.Records.{records_of}
 use Rattle.ss_events.specs.declared.fault.EventsFault.{EventsFault}
 use Rattle.ss_events.specs.declared.fault.EventsFault.TheVariants.{At, Memory}
+use Rattle.ss_events.specs.declared.late.Late.{Late}
+use Rattle.ss_events.specs.declared.late.Late.TheVariants.{Drop, Refuse}
 use Rattle.ss_events.specs.declared.row.RowKind.{RowKind}
 use Rattle.ss_events.specs.declared.row.RowKind.TheVariants as kind
 
@@ -54,46 +57,99 @@ time-below place fields =
     held _ _ (option_and_then time_of (field_at fields place))
     (then-some (λ time. time < 2 ^ 62) time_of (field_at fields place) (λ text. below (2 ^ 62) (digits_value 10 text) (nat_lt 0 (length text) && list_all is_decimal text)))
 
-event-times : (fields : List (List ℕ)) → IfOk (event_of fields) HasSourceTimes
+event-times : (fields : List (List ℕ)) → IfOk (event_of fields) (λ event. HasSourceTimes (element.Row event))
 unfolding event_of
 event-times fields =
-    after-any _ (has_count 6 fields) _ (λ six.
+    after-any _ (has_count 5 fields) _ (λ counted.
     after-both _ _ (time_at 1 fields) _ (time-below 1 fields) (λ start low.
     after-both _ _ (time_at 2 fields) _ (time-below 2 fields) (λ end high.
-    after-any _ (key_at 3 fields) _ (λ key. after-any _ (value_at 4 fields) _ (λ a. after-any _ (value_at 5 fields) _ (λ b. (low, high)))))))
+    after-any _ (key_at 3 fields) _ (λ key.
+    after-any _ (value_at 4 fields) _ (λ a. after-any _ (value_or_zero_at 5 fields) _ (λ b. (low, high)))))))
 
-cti-times : (fields : List (List ℕ)) → IfOk (cti_of fields) HasSourceTimes
-unfolding cti_of
-cti-times fields = after-any _ (has_count 2 fields) _ (λ two. after-both _ _ (time_at 1 fields) _ (time-below 1 fields) (λ time low. low))
+-- an element that may follow, with the bound after it, or none and the same bound
+abbrev FollowsAs : ℕ → Option Element → ℕ → Type 0
+FollowsAs bound None after = after ≡ bound
+FollowsAs bound (Some x) after = HasSourceTimes x × (next_bound bound x ≡ Some after)
 
-end-times : (fields : List (List ℕ)) → IfOk (end_of fields) HasSourceTimes
-unfolding end_of
-end-times fields = after-any _ (has_count 1 fields) _ (λ one. tt)
+abbrev Follows : ℕ → Given → Type 0
+Follows bound next = FollowsAs bound next.0 next.1
 
-times-by : (named : RowKind) (fields : List (List ℕ)) → IfOk (element_by named fields) HasSourceTimes
-times-by kind.Event fields = event-times fields
-times-by kind.Cti fields = cti-times fields
-times-by kind.End fields = end-times fields
+late-follows : (late : Late) (bound : ℕ) (event : Event) → IfOk (late_given late bound event) (Follows bound)
+late-follows Refuse bound event = tt
+late-follows Drop bound event = refl
 
-element-times : (fields : List (List ℕ)) → IfOk (element_of fields) HasSourceTimes
-unfolding element_of
-element-times fields = after-any _ (kind_of fields) _ (λ named. times-by named fields)
+event-next : (bound : ℕ) (event : Event) → bound < top → event.end < 2 ^ 62 → nat_lt event.start event.end ≡ true
+    → nat_lt event.start bound ≡ false → next_bound bound (element.Row event) ≡ Some bound
+event-next bound event going high span late =
+    let below_top : nat_lt bound top ≡ true = grind (arith, nat_tests) in
+    let near : nat_lt event.end top ≡ true = grind (arith, nat_tests) in
+    let early : nat_le bound event.start ≡ true = grind (arith, nat_tests) in
+    rw (below_top, near, span, early) refl
 
--- an element that may follow, with the bound after it
-pub record Follows (bound : ℕ) (next : Element × ℕ) : Type 0 where
-  pub times : HasSourceTimes next.0
-  pub after : next_bound bound next.0 ≡ Some next.1
+event-follows : (late : Late) (bound : ℕ) (event : Event) → bound < top → HasSourceTimes (element.Row event)
+    → IfOk (event_given late bound event) (Follows bound)
+event-follows late bound event going times =
+    let given : Bool → Result Given EventWhy = λ b. cond b (late_given late bound event) (Ok (Some (element.Row event), bound)) in
+    elim (nat_lt event.start event.end) as (λ s. nat_lt event.start event.end ≡ s → IfOk (cond (not s) (Err EmptySpan) (given (nat_lt event.start bound))) (Follows bound)) [
+      | false ↦ λ span. tt
+      | true ↦ λ span.
+          elim (nat_lt event.start bound) as (λ b. nat_lt event.start bound ≡ b → IfOk (given b) (Follows bound)) [
+            | true ↦ λ e. late-follows late bound event
+            | false ↦ λ e. (times, event-next bound event going times.1 span e)
+          ] refl
+    ] refl
 
-same : {A : Type 0} (why : EventWhy) (found : Option A) → IfOk (or_fault why found) (λ x. found ≡ Some x)
-same why None = tt
-same why (Some x) = refl
+cti-next : (bound time : ℕ) → time < 2 ^ 62 → nat_lt time bound ≡ false → (time == bound) ≡ false
+    → next_bound bound (element.Cti time) ≡ Some time
+cti-next bound time low forward other =
+    let above : nat_lt bound time ≡ true = grind (arith, nat_tests) in
+    let near : nat_lt time top ≡ true = grind (arith, nat_tests) in
+    rw (above, near) refl
 
-row-follows : (bound : ℕ) (fields : List (List ℕ)) → IfOk (row_after bound fields) (Follows bound)
+cti-follows : (bound time : ℕ) → time < 2 ^ 62 → IfOk (cti_given bound time) (Follows bound)
+cti-follows bound time low =
+    let given : Bool → Result Given EventWhy = λ b. cond b (Ok (None, bound)) (Ok (Some (element.Cti time), time)) in
+    elim (nat_lt time bound) as (λ b. nat_lt time bound ≡ b → IfOk (cond b (Err (BackwardCti time bound)) (given (time == bound))) (Follows bound)) [
+      | true ↦ λ back. tt
+      | false ↦ λ back.
+          elim (time == bound) as (λ b. (time == bound) ≡ b → IfOk (given b) (Follows bound)) [
+            | true ↦ λ e. refl
+            | false ↦ λ e. (low, cti-next bound time low back e)
+          ] refl
+    ] refl
+
+end-next : (bound : ℕ) → bound < top → next_bound bound element.End ≡ Some top
+end-next bound going = let below_top : nat_lt bound top ≡ true = grind (arith, nat_tests) in rw below_top refl
+
+kind-follows : (named : RowKind) (late : Late) (bound : ℕ) (fields : List (List ℕ)) → bound < top
+    → IfOk (row_by named late bound fields) (Follows bound)
+unfolding event_row cti_row end_row
+kind-follows kind.Event late bound fields going =
+    after-both _ _ (event_of fields) _ (event-times fields) (λ event times. event-follows late bound event going times)
+kind-follows kind.Cti late bound fields going =
+    after-any _ (has_count 2 fields) _ (λ counted. after-any _ (is_padding 2 fields) _ (λ padded.
+    after-both _ _ (time_at 1 fields) _ (time-below 1 fields) (λ time low. cti-follows bound time low)))
+kind-follows kind.End late bound fields going =
+    after-any _ (has_count 1 fields) _ (λ counted. after-any _ (is_padding 1 fields) _ (λ padded. (tt, end-next bound going)))
+
+row-follows : (late : Late) (bound : ℕ) (fields : List (List ℕ)) → bound ≤ top → IfOk (row_after late bound fields) (Follows bound)
 unfolding row_after
-row-follows bound fields =
-    after-both HasSourceTimes (Follows bound) (element_of fields) _ (element-times fields) (λ x times.
-    after-both (λ after. next_bound bound x ≡ Some after) (Follows bound) (bound_after bound x) _ (same _ (next_bound bound x)) (λ after is.
-    record { times = times; after = is }))
+row-follows late bound fields low =
+    let rest = kind_of fields >>= (λ named. row_by named late bound fields) in
+    elim (bound == top) as (λ b. (bound == top) ≡ b → IfOk (check AfterEnd (not b) >>= (λ _. rest)) (Follows bound)) [
+      | true ↦ λ e. tt
+      | false ↦ λ e.
+          let going : bound < top = grind (arith, nat_tests) in
+          after-any _ (kind_of fields) _ (λ named. kind-follows named late bound fields going)
+    ] refl
+
+given-follows : (late : Late) (number bound : ℕ) (fields : List (List ℕ)) → bound ≤ top
+    → IfOk (row_given late number bound fields) (Follows bound)
+given-follows late number bound fields low =
+    elim (number == 1 && is_header fields) as (λ b. IfOk (cond b (Ok (None, bound)) (row_after late bound fields)) (Follows bound)) [
+      | true ↦ refl
+      | false ↦ row-follows late bound fields low
+    ]
 
 weaker : (found : Option ℕ) → IfSome found (λ time. time < top) → IfSome found (λ time. time ≤ top)
 weaker None low = tt
@@ -120,33 +176,39 @@ ending-whole bound low =
       | false ↦ λ e. let under : nat_lt bound top ≡ true = grind (arith, nat_tests) in record { whole = rw under refl; times = (tt, tt) }
     ] refl
 
-behind : (bound : ℕ) (next : Element × ℕ) (rest : List Element) → Follows bound next → IsWholeFrom next.1 rest → IsWholeFrom bound (next.0 ∷ rest)
-behind bound next rest follows whole =
-    record { whole = rw follows.after whole.whole; times = (follows.times, whole.times) }
+behind : (bound : ℕ) (given : Option Element) (after : ℕ) (rest : List Element) → FollowsAs bound given after
+    → IsWholeFrom after rest → IsWholeFrom bound (option_to_list given ++ rest)
+behind bound None after rest is whole = subst (λ b. IsWholeFrom b rest) is whole
+behind bound (Some x) after rest follows whole =
+    record { whole = rw follows.1 whole.whole; times = (follows.0, whole.times) }
 
 in-row : {A : Type 0} (P : A → Type 0) (number : ℕ) (read : Result A EventWhy) → IfOk read P → IfOk (in_row number read) P
 in-row P number (Ok x) holds = holds
 in-row P number (Err why) holds = tt
 
-limited : (number bound : ℕ) (fields : List (List ℕ)) → IfOk (row_at number bound fields) (Follows bound)
-limited number bound fields =
-    elim (nat_lt most_rows number) as (λ b. IfOk (cond b (Err NotBuilt) (row_after bound fields)) (Follows bound)) [
+limited : (late : Late) (number bound : ℕ) (fields : List (List ℕ)) → bound ≤ top → IfOk (row_at late number bound fields) (Follows bound)
+limited late number bound fields low =
+    elim (nat_lt most_rows number) as (λ b. IfOk (cond b (Err TooManyRows) (row_given late number bound fields)) (Follows bound)) [
       | true ↦ tt
-      | false ↦ row-follows bound fields
+      | false ↦ given-follows late number bound fields low
     ]
 
-within-top : (bound : ℕ) (next : Element × ℕ) → bound ≤ top → Follows bound next → next.1 ≤ top
-within-top bound next low follows =
-    let P : Option ℕ → Type 0 = λ found. IfSome found (λ after. after ≤ top) in subst P follows.after (below-top bound next.0 low)
+within-top : (bound : ℕ) (given : Option Element) (after : ℕ) → bound ≤ top → FollowsAs bound given after → after ≤ top
+within-top bound None after low is = omega (arith, low, is)
+within-top bound (Some x) after low follows =
+    let P : Option ℕ → Type 0 = λ found. IfSome found (λ after. after ≤ top) in subst P follows.1 (below-top bound x low)
 
--- what rows give behind elements with this bound
-pub whole-from : (rows : List (List (List ℕ))) (number bound : ℕ) → bound ≤ top → IfOk (elements_from rows number bound) (IsWholeFrom bound)
+-- what rows give behind rows with this bound
+pub whole-from : (late : Late) (rows : List (List (List ℕ))) (number bound : ℕ) → bound ≤ top
+    → IfOk (elements_from late rows number bound) (IsWholeFrom bound)
 unfolding elements_from
-whole-from [] number bound low = ending-whole bound low
-whole-from (fields ∷ rows) number bound low =
-    after-both (Follows bound) (IsWholeFrom bound) (in_row number (row_at number bound fields)) _ (in-row _ number (row_at number bound fields) (limited number bound fields)) (λ next follows.
-    after-both (IsWholeFrom next.1) (IsWholeFrom bound) (elements_from rows (number + 1) next.1) _ (whole-from rows (number + 1) next.1 (within-top bound next low follows)) (λ rest whole.
-    behind bound next rest follows whole))
+whole-from late [] number bound low = ending-whole bound low
+whole-from late (fields ∷ rows) number bound low =
+    let row = row_at late number bound fields in
+    after-both (Follows bound) (IsWholeFrom bound) (in_row number row) _ (in-row _ number row (limited late number bound fields low)) (λ next follows.
+    let near = within-top bound next.0 next.1 low follows in
+    after-both (IsWholeFrom next.1) (IsWholeFrom bound) (elements_from late rows (number + 1) next.1) _ (whole-from late rows (number + 1) next.1 near) (λ rest whole.
+    behind bound next.0 next.1 rest follows whole))
 
 -- what holds of a list holds of the reader's answer that gives it
 pub of-answer : {X Y : Type 0} (view : X → Y) (P : Y → Type 0) (answer : Result X EventsFault) (read : Result Y EventFault)
@@ -163,8 +225,8 @@ times-part : (read : Result (List Element) EventFault) → IfOk read (IsWholeFro
 times-part (Ok xs) is = is.times
 times-part (Err fault) is = tt
 
-pub list-whole : (bytes : List ℕ) → IfOk (event_list bytes) Whole
-list-whole bytes = whole-part (event_list bytes) (whole-from (records_of bytes) 1 0 (omega arith))
+pub list-whole : (bytes : List ℕ) (late : Late) → IfOk (event_list bytes late) Whole
+list-whole bytes late = whole-part (event_list bytes late) (whole-from late (records_of bytes) 1 0 (omega arith))
 
-pub list-times : (bytes : List ℕ) → IfOk (event_list bytes) AllSourceTimes
-list-times bytes = times-part (event_list bytes) (whole-from (records_of bytes) 1 0 (omega arith))
+pub list-times : (bytes : List ℕ) (late : Late) → IfOk (event_list bytes late) AllSourceTimes
+list-times bytes late = times-part (event_list bytes late) (whole-from late (records_of bytes) 1 0 (omega arith))

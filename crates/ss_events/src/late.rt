@@ -1,8 +1,8 @@
-/// What becomes of a row that starts before the bound of the rows before it.
+/// What becomes of an event that starts before the bound, which is the time of the last `cti` before it.
 #[derive(Clone, Copy, Debug, PartialEq, Eq)]
 pub enum Late {
     /// The file is refused.
     Refuse,
-    /// The row gives no element. No file can be read so yet.
+    /// The row gives no element.
     Drop,
 }

@@ -1,6 +1,6 @@
 // Numbers as event files write them: decimal digits, any number of leading zeros among them.
 
-ghost use Rattle.std.specs.Prelude.{◌≡◌, ◌<◌, ◌≤◌, ◌^◌};
+ghost use Rattle.std.specs.Prelude.{◌≡◌, ◌<◌, ◌≤◌, ◌^◌, IfSome};
 ghost use Rattle.ss_events.specs.Numbers as spec;
 
 const TIME_LIMIT: u64 = 1 << 62;
@@ -9,7 +9,8 @@ const VALUE_LIMIT: u64 = 1 << 63;
 
 /// The time that the text writes: below 2^62.
 pub(crate) fn time_of(text: &[u8]) -> Option<u64>
-    ensures { result ≡ spec.time_of text.now }
+    ensures time { result ≡ spec.time_of text.now }
+    ensures low { IfSome result (λ time. time < 2 ^ 62) }
 {
     number_below(TIME_LIMIT, text)
 }
@@ -33,7 +34,8 @@ pub(crate) fn value_of(text: &[u8]) -> Option<i64>
 /// The number that one or more digits write, where it is below the limit.
 fn number_below(limit: u64, digits: &[u8]) -> Option<u64>
     requires { 0 < limit }
-    ensures { result ≡ spec.number_below limit digits.now }
+    ensures number { result ≡ spec.number_below limit digits.now }
+    ensures low { IfSome result (λ number. number < limit) }
 {
     if digits.is_empty() {
         return None;

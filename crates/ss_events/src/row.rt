@@ -1,11 +1,12 @@
-// What a row gives: one element.
+// What a row gives: perhaps an element, and the bound for the rows behind it.
 
-ghost use Rattle.std.specs.Prelude.{◌≡◌};
+ghost use Rattle.std.specs.Prelude.{◌≡◌, ◌<◌, ◌^◌};
 ghost use Rattle.csv.specs.Records.{fields_of};
 ghost use Rattle.ss_events.specs.Rows as spec;
 
 use crate::fault::EventWhy;
-use crate::fields::{has_count, key_at, time_at, value_at};
+use crate::fields::{has_count, has_text, is_padding, key_at, time_at, value_at, value_or_zero_at};
+use crate::late::Late;
 use csv::ByteRecord;
 use ss_elem::{Bound, Element, Event, valid_next};
 
@@ -17,85 +18,145 @@ pub(crate) enum RowKind {
     End,
 }
 
-/// The row's element and the bound after it, where the elements before it have this bound.
-#[tactic(auto, unfolding(crate::specs::Rows::row_after))]
-pub(crate) fn row_after(bound: Bound, row: &ByteRecord) -> Result<(Element, Bound), EventWhy>
-    ensures { result ≡ spec.row_after bound (fields_of row.now) }
-{
-    let element = element_of(row)?;
-    let after = bound_after(bound, &element)?;
-    Ok((element, after))
-}
+/// What a row gives: its element, where it has one, and the bound after it.
+pub(crate) type Given = (Option<Element>, Bound);
 
-fn bound_after(bound: Bound, element: &Element) -> Result<Bound, EventWhy>
-    ensures { result ≡ spec.bound_after bound element.now }
+/// What the row with this number gives behind rows with this bound.
+pub(crate) fn row_given(
+    late: Late,
+    number: u64,
+    bound: Bound,
+    row: &ByteRecord,
+) -> Result<Given, EventWhy>
+    ensures { result ≡ spec.row_given late number bound (fields_of row.now) }
 {
-    match valid_next(bound, element) {
-        Ok(after) => Ok(after),
-        Err(_) => Err(EventWhy::NotBuilt),
+    if number == 1 && is_header(row) {
+        Ok((None, bound))
+    } else {
+        row_after(late, bound, row)
     }
 }
 
-#[tactic(auto, unfolding(crate::specs::Rows::element_of))]
-fn element_of(row: &ByteRecord) -> Result<Element, EventWhy>
-    ensures { result ≡ spec.element_of (fields_of row.now) }
+fn is_header(row: &ByteRecord) -> bool
+    ensures { result ≡ spec.is_header (fields_of row.now) }
 {
+    has_text(row, 0, b"kind".as_slice())
+        && has_text(row, 1, b"start".as_slice())
+        && has_text(row, 2, b"end".as_slice())
+        && has_text(row, 3, b"key".as_slice())
+        && has_text(row, 4, b"a".as_slice())
+        && (row.len() == 5 || row.len() == 6 && has_text(row, 5, b"b".as_slice()))
+}
+
+#[tactic(auto, unfolding(crate::specs::Rows::row_after))]
+fn row_after(late: Late, bound: Bound, row: &ByteRecord) -> Result<Given, EventWhy>
+    ensures { result ≡ spec.row_after late bound (fields_of row.now) }
+{
+    if bound == Bound::TOP {
+        return Err(EventWhy::AfterEnd);
+    }
     match kind_of(row)? {
-        RowKind::Event => event_of(row),
-        RowKind::Cti => cti_of(row),
-        RowKind::End => end_of(row),
+        RowKind::Event => event_row(late, bound, row),
+        RowKind::Cti => cti_row(bound, row),
+        RowKind::End => end_row(row),
     }
 }
 
 fn kind_of(row: &ByteRecord) -> Result<RowKind, EventWhy>
     ensures { result ≡ spec.kind_of (fields_of row.now) }
 {
-    let Some(kind) = row.get(0) else {
-        return Err(EventWhy::NotBuilt);
-    };
-    if kind == b"event".as_slice() {
+    if has_text(row, 0, b"event".as_slice()) {
         Ok(RowKind::Event)
-    } else if kind == b"cti".as_slice() {
+    } else if has_text(row, 0, b"cti".as_slice()) {
         Ok(RowKind::Cti)
-    } else if kind == b"end".as_slice() {
+    } else if has_text(row, 0, b"end".as_slice()) {
         Ok(RowKind::End)
     } else {
-        Err(EventWhy::NotBuilt)
+        Err(EventWhy::BadKind)
     }
 }
 
+#[tactic(auto, unfolding(crate::specs::Rows::event_row))]
+fn event_row(late: Late, bound: Bound, row: &ByteRecord) -> Result<Given, EventWhy>
+    ensures { result ≡ spec.event_row late bound (fields_of row.now) }
+{
+    let event = event_of(row)?;
+    event_given(late, bound, event)
+}
+
 #[tactic(auto, unfolding(crate::specs::Rows::event_of))]
-fn event_of(row: &ByteRecord) -> Result<Element, EventWhy>
+fn event_of(row: &ByteRecord) -> Result<Event, EventWhy>
     ensures { result ≡ spec.event_of (fields_of row.now) }
 {
-    has_count(row, 6)?;
+    has_count(row, 5)?;
     let start = time_at(row, 1)?;
     let end = time_at(row, 2)?;
     let key = key_at(row, 3)?;
     let a = value_at(row, 4)?;
-    let b = value_at(row, 5)?;
-    Ok(Element::Row(Event {
+    let b = value_or_zero_at(row, 5)?;
+    Ok(Event {
         start,
         end,
         key,
         a,
         b,
-    }))
+    })
 }
 
-#[tactic(auto, unfolding(crate::specs::Rows::cti_of))]
-fn cti_of(row: &ByteRecord) -> Result<Element, EventWhy>
-    ensures { result ≡ spec.cti_of (fields_of row.now) }
+fn event_given(late: Late, bound: Bound, event: Event) -> Result<Given, EventWhy>
+    ensures { result ≡ spec.event_given late bound event }
+{
+    if event.start >= event.end {
+        return Err(EventWhy::EmptySpan);
+    }
+    if event.start >= bound.get() {
+        return Ok((Some(Element::Row(event)), bound));
+    }
+    match late {
+        Late::Refuse => Err(EventWhy::EarlyEvent {
+            start: event.start,
+            bound: bound.get(),
+        }),
+        Late::Drop => Ok((None, bound)),
+    }
+}
+
+#[tactic(auto, unfolding(crate::specs::Rows::cti_row))]
+fn cti_row(bound: Bound, row: &ByteRecord) -> Result<Given, EventWhy>
+    ensures { result ≡ spec.cti_row bound (fields_of row.now) }
 {
     has_count(row, 2)?;
+    is_padding(row, 2)?;
     let time = time_at(row, 1)?;
-    Ok(Element::Cti(time))
+    cti_given(bound, time)
 }
 
-#[tactic(auto, unfolding(crate::specs::Rows::end_of))]
-fn end_of(row: &ByteRecord) -> Result<Element, EventWhy>
-    ensures { result ≡ spec.end_of (fields_of row.now) }
+fn cti_given(bound: Bound, time: u64) -> Result<Given, EventWhy>
+    requires { time < 2 ^ 62 }
+    ensures { result ≡ spec.cti_given bound time }
+{
+    if time < bound.get() {
+        return Err(EventWhy::BackwardCti {
+            time,
+            bound: bound.get(),
+        });
+    }
+    if time == bound.get() {
+        return Ok((None, bound));
+    }
+    let cti = Element::Cti(time);
+    match valid_next(bound, &cti) {
+        Ok(after) => Ok((Some(cti), after)),
+        // A time above the bound may follow, since it is below 2^62.
+        Err(_) => unreachable!(),
+    }
+}
+
+#[tactic(auto, unfolding(crate::specs::Rows::end_row))]
+fn end_row(row: &ByteRecord) -> Result<Given, EventWhy>
+    ensures { result ≡ spec.end_row (fields_of row.now) }
 {
     has_count(row, 1)?;
-    Ok(Element::End)
+    is_padding(row, 1)?;
+    Ok((Some(Element::End), Bound::TOP))
 }

@@ -4,6 +4,8 @@ use Rattle.std.specs.Prelude.{codes}
 use Rattle.toml.proofs.OnLiterals.{toml_on_literals}
 use Rattle.toml.specs.Data.{string, array, table, no_items, item, Members, no_members, member}
 use Rattle.toml.specs.Parse.{parse_document}
+use Rattle.ss_events.specs.declared.late.Late.{Late}
+use Rattle.ss_events.specs.declared.late.Late.TheVariants.{Refuse, Drop}
 use Rattle.ss_job.specs.JobText.{JobText}
 use Rattle.ss_job.specs.Names.{is_vertex_name, is_file_name}
 use Rattle.ss_job.specs.Reading.{source_of, sink_of, job_of}
@@ -38,10 +40,19 @@ sink_table name input = member (codes "file") (string (codes "-")) (member (code
 abbrev document : Members → Members → Members
 document first second = member (codes "vertex") (array (item (table first) (item (table second) no_items))) no_members
 
-abbrev the_job : JobText
-the_job = record { source = record { name = codes "a"; file = codes "in" }; sink = record { name = codes "b"; file = codes "-" } }
+-- the same source with a word in its field `late`
+abbrev source_saying : List ℕ → Members
+source_saying word = member (codes "late") (string word) source_table
 
-pub a_job : job_of (document source_table (sink_table (codes "b") (codes "a"))) ≡ Some the_job
+-- the job of these two, with this word's meaning
+abbrev the_job : Late → JobText
+the_job late =
+    record {
+      source = record { name = codes "a"; file = codes "in"; late = late };
+      sink = record { name = codes "b"; file = codes "-" };
+    }
+
+pub a_job : job_of (document source_table (sink_table (codes "b") (codes "a"))) ≡ Some (the_job Refuse)
 unfolding job_of source_of sink_of
 a_job = refl
 
@@ -57,7 +68,15 @@ pub another_input : job_of (document source_table (sink_table (codes "b") (codes
 unfolding job_of source_of sink_of
 another_input = refl
 
-pub further_field : job_of (document (member (codes "late") (string (codes "drop")) source_table) (sink_table (codes "b") (codes "a"))) ≡ None
+pub late_rows_dropped : job_of (document (source_saying (codes "drop")) (sink_table (codes "b") (codes "a"))) ≡ Some (the_job Drop)
+unfolding job_of source_of sink_of
+late_rows_dropped = refl
+
+pub no_word_of_late : job_of (document (source_saying (codes "Drop")) (sink_table (codes "b") (codes "a"))) ≡ None
+unfolding job_of source_of sink_of
+no_word_of_late = refl
+
+pub further_field : job_of (document (member (codes "every") (string (codes "1")) source_table) (sink_table (codes "b") (codes "a"))) ≡ None
 unfolding job_of source_of sink_of
 further_field = refl
 

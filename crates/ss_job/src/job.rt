@@ -2,6 +2,7 @@
 ghost use Rattle.std.specs.Prelude.{◌≡◌, ◌<◌, IfOk};
 
 use crate::texts::{JobTexts, VertexTexts};
+use ss_events::Late;
 use std::alloc::{AllocError, Global};
 use std::marker::Model;
 
@@ -10,6 +11,7 @@ use std::marker::Model;
 #[derive(Debug, Drop)]
 pub struct Job {
     source: Vertex,
+    late: Late,
     sink: Vertex,
 }
 
@@ -38,9 +40,13 @@ impl Job {
     pub(crate) fn new(alloc: Global, texts: &JobTexts) -> Result<Job, AllocError>
         ensures { IfOk result (λ job. job ≡ job_of_texts texts.now) }
     {
-        let source = Vertex::new(alloc, &texts.source)?;
+        let source = Vertex::new(alloc, &texts.source.vertex)?;
         let sink = Vertex::new(alloc, &texts.sink)?;
-        Ok(Job { source, sink })
+        Ok(Job {
+            source,
+            late: texts.source.late,
+            sink,
+        })
     }
 
     /// The name of a vertex, 1 to 32 bytes of ASCII.
@@ -66,6 +72,14 @@ impl Job {
         } else {
             self.sink.file.as_str()
         }
+    }
+
+    /// What becomes of a row of the source's file that comes late.
+    pub fn late(&self, v: u32) -> Late
+        requires { v < 1 }
+        ensures { result ≡ self.now.source.late }
+    {
+        self.late
     }
 }
 

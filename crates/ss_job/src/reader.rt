@@ -1,19 +1,20 @@
 //! The reader of job files.
 ghost use Rattle.std.specs.Prelude.{◌≡◌, IfOk, IfErr, List, ℕ, option_map};
 ghost use Rattle.toml.specs.View.{table_view};
-ghost use Rattle.ss_job.specs.Reading.{source_of, sink_of, job_of};
-ghost use Rattle.ss_job.specs.Borrowed.{vertex_of_texts, job_of_texts};
+ghost use Rattle.ss_job.specs.Reading.{late_named, late_of, source_of, sink_of, job_of};
+ghost use Rattle.ss_job.specs.Borrowed.{vertex_of_texts, source_of_texts, job_of_texts};
 ghost use Rattle.ss_job.specs.Fault.{IsToldBy, whole_document};
 ghost use Rattle.ss_job.specs.JobText.{JobText};
 ghost use Rattle.ss_job.specs.Says.{Says, Refuses};
 ghost use Rattle.ss_job.specs.declared.fault.JobFault.{JobFault};
 ghost use Rattle.ss_job.specs.declared.fault.JobsFault.TheVariants.{At};
 
-use crate::document::{array_at, has_only, pair_of, single_of, text_at};
+use crate::document::{array_at, has_only, pair_of, single_of, text_at, value_at};
 use crate::fault::{JobFault, JobWhy, JobsFault};
 use crate::job::Job;
 use crate::names::{is_file_name, is_vertex_name};
-use crate::texts::{JobTexts, VertexTexts};
+use crate::texts::{JobTexts, SourceTexts, VertexTexts};
+use ss_events::Late;
 use std::alloc::Global;
 use toml::Table;
 
@@ -70,25 +71,53 @@ fn job_of(document: &Table) -> Option<JobTexts<'_>>
     }
     let (first, second) = pair_of(array_at(document, "vertex")?)?;
     let source = source_of(first.as_table()?)?;
-    let sink = sink_of(second.as_table()?, source.name)?;
+    let sink = sink_of(second.as_table()?, source.vertex.name)?;
     Some(JobTexts { source, sink })
 }
 
 /// The source that a table says.
 #[tactic(auto, unfolding(crate::specs::Reading::source_of))]
-fn source_of(table: &Table) -> Option<VertexTexts<'_>>
-    ensures { option_map vertex_of_texts result ≡ source_of (table_view table.now) }
+fn source_of(table: &Table) -> Option<SourceTexts<'_>>
+    ensures { option_map source_of_texts result ≡ source_of (table_view table.now) }
 {
     let name = text_at(table, "name")?;
     let op = text_at(table, "op")?;
     let file = text_at(table, "file")?;
-    if !has_only(table, &["name", "op", "file"]) || !is_vertex_name(name) || op != "source" {
+    let late = late_of(table)?;
+    if !has_only(table, &["name", "op", "file", "late"])
+        || !is_vertex_name(name)
+        || op != "source"
+    {
         return None;
     }
     if !is_file_name(file) || file == "-" {
         return None;
     }
-    Some(VertexTexts { name, file })
+    Some(SourceTexts {
+        vertex: VertexTexts { name, file },
+        late,
+    })
+}
+
+/// What a source says becomes of late rows, which are refused where it says nothing.
+fn late_of(table: &Table) -> Option<Late>
+    ensures { result ≡ late_of (table_view table.now) }
+{
+    match value_at(table, "late") {
+        Some(value) => late_named(value.as_str()?),
+        None => Some(Late::Refuse),
+    }
+}
+
+/// What a word says becomes of late rows.
+fn late_named(word: &str) -> Option<Late>
+    ensures { result ≡ late_named word.now }
+{
+    match word {
+        "refuse" => Some(Late::Refuse),
+        "drop" => Some(Late::Drop),
+        _ => None,
+    }
 }
 
 /// The sink that a table says, whose one input is the source of this name.

@@ -1,10 +1,11 @@
 use super::{JobFault, JobWhy, JobsFault, read_job};
+use ss_events::Late;
 use std::alloc::Global;
 use std::process::Abort;
 use std::test::Fail;
 
-/// Each vertex's name and file, or what is wrong.
-type Answer = Result<&'static str, JobWhy>;
+/// Each vertex's name and file and what becomes of late rows, or what is wrong.
+type Answer = Result<(&'static str, Late), JobWhy>;
 
 const NOT_BUILT: Answer = Err(JobWhy::NotBuilt);
 
@@ -13,16 +14,16 @@ const NOT_TOML: Answer = Err(JobWhy::NotToml);
 const FIFTY: &str = "01234567890123456789012345678901234567890123456789";
 
 /// What a job file shows, its text, and its answer.
-const JOB_FILES: [(&'static str, &'static str, Answer); 29] = [
+const JOB_FILES: [(&'static str, &'static str, Answer); 33] = [
     (
         "a job",
         "vertex = [{ name = 'a', op = 'source', file = 'in' }, { name = 'b', op = 'sink', inputs = ['a'], file = 'out' }]",
-        Ok("a: in, b: out"),
+        Ok(("a: in, b: out", Late::Refuse)),
     ),
     (
         "tables one by one, behind a byte order mark, with every kind of name byte",
         "\u{feff}# a job\n[[vertex]]\nname = 'S-1_z'\nop = 'source'\nfile = 'my in~.csv'\n[[vertex]]\nfile = '-'\ninputs = ['S-1_z']\nop = 'sink'\nname = 's'\n",
-        Ok("S-1_z: my in~.csv, s: -"),
+        Ok(("S-1_z: my in~.csv, s: -", Late::Refuse)),
     ),
     ("an empty document", "", NOT_BUILT),
     ("no TOML", "vertex = [", NOT_TOML),
@@ -128,7 +129,27 @@ const JOB_FILES: [(&'static str, &'static str, Answer); 29] = [
     ),
     (
         "a further field of the source",
-        "vertex = [{ name = 'a', op = 'source', file = 'in', late = 'drop' }, { name = 'b', op = 'sink', inputs = ['a'], file = 'out' }]",
+        "vertex = [{ name = 'a', op = 'source', file = 'in', every = 1 }, { name = 'b', op = 'sink', inputs = ['a'], file = 'out' }]",
+        NOT_BUILT,
+    ),
+    (
+        "late rows dropped",
+        "vertex = [{ name = 'a', op = 'source', late = 'drop', file = 'in' }, { name = 'b', op = 'sink', inputs = ['a'], file = 'out' }]",
+        Ok(("a: in, b: out", Late::Drop)),
+    ),
+    (
+        "late rows refused",
+        "vertex = [{ name = 'a', op = 'source', file = 'in', late = 'refuse' }, { name = 'b', op = 'sink', inputs = ['a'], file = 'out' }]",
+        Ok(("a: in, b: out", Late::Refuse)),
+    ),
+    (
+        "another word for late rows",
+        "vertex = [{ name = 'a', op = 'source', file = 'in', late = 'Drop' }, { name = 'b', op = 'sink', inputs = ['a'], file = 'out' }]",
+        NOT_BUILT,
+    ),
+    (
+        "late rows by a truth",
+        "vertex = [{ name = 'a', op = 'source', file = 'in', late = true }, { name = 'b', op = 'sink', inputs = ['a'], file = 'out' }]",
         NOT_BUILT,
     ),
     (
@@ -161,11 +182,14 @@ fn check_answer(
     answer: Answer,
 ) -> Result<(), Fail> {
     match (read_job(alloc, bytes), answer) {
-        (Ok(job), Ok(wanted)) => {
+        (Ok(job), Ok((texts, late))) => {
             let (source, source_file) = (job.name(0), job.file(0));
             let (sink, sink_file) = (job.name(1), job.file(1));
             let read = format!(in alloc; "{source}: {source_file}, {sink}: {sink_file}")?;
-            assert!(rt; read.as_str() == wanted, "{what}: {read}");
+            assert!(rt;
+                read.as_str() == texts && job.late(0) == late,
+                "{what}: {read}"
+            );
         }
         (Err(fault), Err(why)) => {
             let wanted = JobsFault::At(JobFault { vertex: None, why });

@@ -109,11 +109,12 @@ no_job_fault one words files job fault file_too read (file, bytes, named, h, say
     one.no_fault bytes job fault says (subst (λ (b : List ℕ). Refuses b (At fault)) same refused)
 
 pub same_events : (one : OneReading) (words : List (List ℕ)) (files : Telling) (job other : JobText) (result : Result (List Element) EventFault) (bytes : List ℕ) →
-    TellsEvents words files job result → WordsSayJob words files other → AreBytesOf files other.source.file bytes → event_list bytes ≡ result
+    TellsEvents words files job result → WordsSayJob words files other → AreBytesOf files other.source.file bytes → event_list bytes other.source.late ≡ result
 same_events one words files job other result read (tells, (bytes, h, is)) says k =
     let same : other ≡ job = same_job one words files job other tells says in
     let here : AreBytesOf files job.source.file read = subst (λ (j : JobText). AreBytesOf files j.source.file read) same k in
-    ap event_list (read_is_told files job.source.file bytes read h here) ∙ is
+    let late : event_list read other.source.late ≡ event_list read job.source.late = ap (λ (j : JobText). event_list read j.source.late) same in
+    late ∙ ap (λ (b : List ℕ). event_list b job.source.late) (read_is_told files job.source.file bytes read h here) ∙ is
 
 pub named_of : (words : List (List ℕ)) (files : Telling) (job : JobText) → TellsJob words files job → job_file_of words ≡ None → ⊥
 named_of words files job (file, bytes, named, k, says) h = no_file words file h named

@@ -51,7 +51,7 @@ FaultCause words before after done Usage = (job_file_of words ≡ None) × (done
 FaultCause words before after done (Job fault) =
     (file bytes : List ℕ) × (job_file_of words ≡ Some file) × AreBytesOf before.files file bytes × Refuses bytes (At fault) × (done ≡ [])
 FaultCause words before after done (Events job fault) =
-    (bytes : List ℕ) × WordsSayJob words before.files job × AreBytesOf before.files job.source.file bytes × (event_list bytes ≡ Err fault)
+    (bytes : List ℕ) × WordsSayJob words before.files job × AreBytesOf before.files job.source.file bytes × (event_list bytes job.source.late ≡ Err fault)
     × (done ≡ [])
 FaultCause words before after done JobUnread =
     (file : List ℕ) × (job_file_of words ≡ Some file) × InputsFailed before after × (done ≡ [])
@@ -94,7 +94,7 @@ TellsJob words files job =
 -- and the source's file is told to be read as this list, or to have this fault
 abbrev pub TellsEvents : List (List ℕ) → Telling → JobText → Result (List Element) EventFault → Type 0
 TellsEvents words files job read =
-    TellsJob words files job × ((bytes : List ℕ) × (files job.source.file ≡ Some bytes) × (event_list bytes ≡ read))
+    TellsJob words files job × ((bytes : List ℕ) × (files job.source.file ≡ Some bytes) × (event_list bytes job.source.late ≡ read))
 
 -- the status is the wanted one, unless memory ran out or a device failed
 abbrev pub Comes : ℕ → Seen → Seen → ℕ → Type 0

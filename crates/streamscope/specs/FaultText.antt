@@ -2,7 +2,7 @@
 use Rattle.std.specs.Prelude.{ℕ, List, [], ◌++◌, unwrap_or, codes}
 use Rattle.std.specs.Fmt.{decimal}
 use Rattle.ss_events.specs.declared.fault.EventWhy.{EventWhy}
-use Rattle.ss_events.specs.declared.fault.EventWhy.TheVariants.{NotBuilt as EventsNotBuilt}
+use Rattle.ss_events.specs.declared.fault.EventWhy.TheVariants.{TooManyRows, AfterEnd, BadKind, BadCount, BadNumber, BadKey, EmptySpan, EarlyEvent, BackwardCti}
 use Rattle.ss_job.specs.declared.fault.JobWhy.{JobWhy}
 use Rattle.ss_job.specs.declared.fault.JobWhy.TheVariants.{NotToml, NotBuilt}
 use Rattle.streamscope.specs.Words.{job_file_of}
@@ -22,8 +22,22 @@ abbrev pub job_why : JobWhy → List ℕ
 job_why NotToml = codes "not a TOML document"
 job_why NotBuilt = codes "not built yet"
 
+abbrev pub early_text : ℕ → ℕ → List ℕ
+early_text start bound = codes "event starts at " ++ decimal start ++ codes ", before " ++ decimal bound
+
+abbrev pub backward_text : ℕ → ℕ → List ℕ
+backward_text time bound = codes "cti goes back from " ++ decimal bound ++ codes " to " ++ decimal time
+
 abbrev pub event_why : EventWhy → List ℕ
-event_why EventsNotBuilt = codes "not built yet"
+event_why TooManyRows = codes "too many rows"
+event_why AfterEnd = codes "row after end"
+event_why BadKind = codes "bad kind"
+event_why BadCount = codes "bad number of fields"
+event_why BadNumber = codes "bad number"
+event_why BadKey = codes "bad key"
+event_why EmptySpan = codes "empty span"
+event_why (EarlyEvent start bound) = early_text start bound
+event_why (BackwardCti time bound) = backward_text time bound
 
 abbrev pub job_text : List ℕ → List ℕ
 job_text why = codes "streamscope: job: " ++ why ++ codes "\n"

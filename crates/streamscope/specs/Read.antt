@@ -1,6 +1,7 @@
 -- Why a file gave no value.
 use Rattle.std.specs.Prelude.{◌≡◌, ℕ, List, Err}
 use Rattle.ss_events.specs.Events.{event_list}
+use Rattle.ss_events.specs.declared.late.Late.{Late}
 use Rattle.ss_events.specs.declared.fault.EventFault.{EventFault}
 use Rattle.ss_job.specs.Says.{Refuses}
 use Rattle.ss_job.specs.declared.fault.JobFault.{JobFault}
@@ -19,5 +20,5 @@ IsReadCause HasFault told file old new Memory = Unit {0}
 abbrev pub HasJobFault : List ℕ → JobFault → Type 0
 HasJobFault bytes fault = Refuses bytes (JobAt fault)
 
-abbrev pub HasEventFault : List ℕ → EventFault → Type 0
-HasEventFault bytes fault = event_list bytes ≡ Err fault
+abbrev pub HasEventFault : Late → List ℕ → EventFault → Type 0
+HasEventFault late bytes fault = event_list bytes late ≡ Err fault

@@ -4,6 +4,7 @@ use Rattle.std.specs.Fmt.{decimal}
 use Rattle.ss_elem.specs.declared.element.Element.{Element}
 use Rattle.ss_elem.specs.Line.{text_of}
 use Rattle.ss_events.specs.Events.{event_list}
+use Rattle.ss_events.specs.declared.late.Late.{Late}
 use Rattle.ss_job.specs.JobText.{JobText}
 use Rattle.ss_job.specs.Says.{Says}
 use Rattle.ss_outside.specs.Told.{Telling, Appends, AreBytesOf}
@@ -14,9 +15,9 @@ use Rattle.streamscope.specs.Words.{job_file_of}
 abbrev pub FileSaysJob : Telling → List ℕ → JobText → Type 0
 FileSaysJob told file job = (bytes : List ℕ) × AreBytesOf told file bytes × Says bytes job
 
--- the file's bytes, as far as they are told, are events, and these are their elements
-abbrev pub FileHasEvents : Telling → List ℕ → List Element → Type 0
-FileHasEvents told file list = (bytes : List ℕ) × AreBytesOf told file bytes × (event_list bytes ≡ Ok list)
+-- the file's bytes, as far as they are told, are events, and read so these are their elements
+abbrev pub FileHasEvents : Telling → List ℕ → Late → List Element → Type 0
+FileHasEvents told file late list = (bytes : List ℕ) × AreBytesOf told file bytes × (event_list bytes late ≡ Ok list)
 
 -- the words name a job file that says this job
 abbrev pub WordsSayJob : List (List ℕ) → Telling → JobText → Type 0
@@ -44,7 +45,7 @@ PutsLines old new job list = (count : ℕ) × Puts old new (put_of job.sink.file
 -- what a run reads: the job that the words name, and the elements of its source
 pub record Reads (words : List (List ℕ)) (told : Telling) (job : JobText) (list : List Element) : Type 0 where
   pub says : WordsSayJob words told job
-  pub events : FileHasEvents told job.source.file list
+  pub events : FileHasEvents told job.source.file job.source.late list
 
 -- a whole run: what it read, and its output, all of it
 abbrev pub Ran : List (List ℕ) → Telling → Telling → Telling → Type 0

@@ -1,5 +1,5 @@
 ghost use Rattle.std.specs.Prelude.{◌≡◌, ℕ, List, IfOk, IfSome, string_bytes, map};
-ghost use Rattle.streamscope.specs.FaultText.{event_why, events_text, fault_text, job_text, job_why, status_of, unread_text};
+ghost use Rattle.streamscope.specs.FaultText.{backward_text, early_text, event_why, events_text, fault_text, job_text, job_why, status_of, unread_text};
 
 use crate::words::job_file_of;
 use ss_events::{EventFault, EventWhy};
@@ -62,12 +62,7 @@ pub(crate) fn named_text(alloc: Global, words: &[String], fault: &Fault) -> Opti
     let text = match fault {
         Fault::Usage | Fault::Output | Fault::Memory => return None,
         Fault::Job(fault) => job_text(alloc, job_why(fault.why)),
-        Fault::Events { job, fault } => events_text(
-            alloc,
-            job.file(0),
-            fault.row,
-            event_why(fault.why),
-        ),
+        Fault::Events { job, fault } => events_text(alloc, job.file(0), fault),
         Fault::JobUnread => unread_text(alloc, job_file_of(words).unwrap_or("")),
         Fault::SourceUnread { job } => unread_text(alloc, job.file(0)),
     };
@@ -86,7 +81,14 @@ fn unread_text(alloc: Global, file: &str) -> Result<String, AllocError>
     format!(in alloc; "streamscope: cannot read {file}\n")
 }
 
-fn events_text(alloc: Global, file: &str, row: u64, why: &str) -> Result<String, AllocError>
+fn events_text(alloc: Global, file: &str, fault: &EventFault) -> Result<String, AllocError>
+    ensures { IfOk result (λ text. string_bytes text ≡ events_text file.now fault.now.row (event_why fault.now.why)) }
+{
+    let why = event_why(alloc, fault.why)?;
+    row_text(alloc, file, fault.row, why.as_str())
+}
+
+fn row_text(alloc: Global, file: &str, row: u64, why: &str) -> Result<String, AllocError>
     ensures { IfOk result (λ text. string_bytes text ≡ events_text file.now row why.now) }
 {
     format!(in alloc; "streamscope: events {file}: row {row}: {why}\n")
@@ -101,10 +103,30 @@ fn job_why(why: JobWhy) -> &'static str
     }
 }
 
-fn event_why(why: EventWhy) -> &'static str
-    ensures { result.now ≡ event_why why }
+fn event_why(alloc: Global, why: EventWhy) -> Result<String, AllocError>
+    ensures { IfOk result (λ text. string_bytes text ≡ event_why why) }
 {
     match why {
-        EventWhy::NotBuilt => "not built yet",
+        EventWhy::TooManyRows => String::from_str(alloc, "too many rows"),
+        EventWhy::AfterEnd => String::from_str(alloc, "row after end"),
+        EventWhy::BadKind => String::from_str(alloc, "bad kind"),
+        EventWhy::BadCount => String::from_str(alloc, "bad number of fields"),
+        EventWhy::BadNumber => String::from_str(alloc, "bad number"),
+        EventWhy::BadKey => String::from_str(alloc, "bad key"),
+        EventWhy::EmptySpan => String::from_str(alloc, "empty span"),
+        EventWhy::EarlyEvent { start, bound } => early_text(alloc, start, bound),
+        EventWhy::BackwardCti { time, bound } => backward_text(alloc, time, bound),
     }
+}
+
+fn early_text(alloc: Global, start: u64, bound: u64) -> Result<String, AllocError>
+    ensures { IfOk result (λ text. string_bytes text ≡ early_text start bound) }
+{
+    format!(in alloc; "event starts at {start}, before {bound}")
+}
+
+fn backward_text(alloc: Global, time: u64, bound: u64) -> Result<String, AllocError>
+    ensures { IfOk result (λ text. string_bytes text ≡ backward_text time bound) }
+{
+    format!(in alloc; "cti goes back from {bound} to {time}")
 }

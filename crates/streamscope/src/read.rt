@@ -43,20 +43,21 @@ pub(crate) fn read_job_file<I: Inputs>(
     }
 }
 
-/// The elements that a file of events has.
+/// The elements that a file of events has; `late` says what becomes of rows that start below the bound.
 pub(crate) fn read_event_file<I: Inputs>(
     alloc: Global,
     inputs: &mut I,
     file: &str,
+    late: Late,
 ) -> Result<Vec<Element>, ReadFault<EventFault>>
-    ensures events { IfOk result (λ list. FileHasEvents (I.bytes inputs.old) file.now list.items) }
-    ensures refused { IfErr result (IsReadCause HasEventFault (I.bytes inputs.old) file.now (I.count inputs.old) (I.count inputs.new)) }
+    ensures events { IfOk result (λ list. FileHasEvents (I.bytes inputs.old) file.now late list.items) }
+    ensures refused { IfErr result (IsReadCause (HasEventFault late) (I.bytes inputs.old) file.now (I.count inputs.old) (I.count inputs.new)) }
     ensures told { Same (I.bytes inputs.old) (I.bytes inputs.new) }
     ensures counts { I.count inputs.old ≤ I.count inputs.new }
 {
     let mut bytes = Vec::new(alloc);
     match inputs.read(file, &mut bytes) {
-        Ok(()) => match read_events(alloc, bytes.as_slice(), Late::Refuse) {
+        Ok(()) => match read_events(alloc, bytes.as_slice(), late) {
             Ok(list) => Ok(list),
             Err(EventsFault::At(fault)) => Err(ReadFault::At(fault)),
             Err(EventsFault::Memory) => Err(ReadFault::Memory),

@@ -35,7 +35,7 @@ pub(crate) fn run<I: Inputs, O: Outputs>(
         Err(ReadFault::Unread) => return Err(Fault::JobUnread),
         Err(ReadFault::Memory) => return Err(Fault::Memory),
     };
-    let list = match read_event_file(alloc, inputs, job.file(0)) {
+    let list = match read_event_file(alloc, inputs, job.file(0), job.late(0)) {
         Ok(list) => list,
         Err(ReadFault::At(fault)) => return Err(Fault::Events { job, fault }),
         Err(ReadFault::Unread) => return Err(Fault::SourceUnread { job }),

@@ -127,24 +127,9 @@ fn a_job_of_a_source_and_a_sink_is_run(rt: HostRuntime) -> Result<(), Fail> {
         ),
         ("no last newline", "event,5,9,k,3,0\r\ncti,10\r\nend", WHOLE),
         (
-            "a key of 17 bytes",
-            "event,5,9,abcdefghijklmnopq,3,0\n",
-            Left {
-                status: 4,
-                out: "",
-                output: "",
-                error: "streamscope: events in.csv: row 1: not built yet\n",
-            },
-        ),
-        (
-            "a row after the end",
-            "end\ncti,1\n",
-            Left {
-                status: 4,
-                out: "",
-                output: "",
-                error: "streamscope: events in.csv: row 2: not built yet\n",
-            },
+            "a header, padded rows and an equal cti",
+            "kind,start,end,key,a\nevent,5,9,k,3\ncti,10,,,,\ncti,10\nend,,,,,\n",
+            WHOLE,
         ),
     ];
     for (what, events, left) in cases {
@@ -160,6 +145,68 @@ fn a_job_of_a_source_and_a_sink_is_run(rt: HostRuntime) -> Result<(), Fail> {
         )?;
     }
     Ok(())
+}
+
+#[test]
+fn the_first_row_at_fault_is_told(rt: HostRuntime) -> Result<(), Fail> {
+    let cases = [
+        ("end\ncti,1\n", "row 2: row after end"),
+        ("evnt,5,9,k,3,0\n", "row 1: bad kind"),
+        ("cti,1\nkind,start,end,key,a,b\n", "row 2: bad kind"),
+        ("event,x,9,k\n", "row 1: bad number of fields"),
+        ("cti,4611686018427387904\n", "row 1: bad number"),
+        ("event,5,9,abcdefghijklmnopq,3,0\n", "row 1: bad key"),
+        ("event,7,7,k,0,0\n", "row 1: empty span"),
+        (
+            "cti,10\nevent,9,12,k,1,0\n",
+            "row 2: event starts at 9, before 10",
+        ),
+        ("cti,10\ncti,9\n", "row 2: cti goes back from 10 to 9"),
+    ];
+    let run: &[&str] = &["run", "job.toml"];
+    for (events, why) in cases {
+        let error = format!(in rt.alloc(); "streamscope: events in.csv: {why}\n")?;
+        let left = Left {
+            status: 4,
+            out: "",
+            output: "",
+            error: error.as_str(),
+        };
+        check_left(
+            &rt,
+            rt.alloc(),
+            why,
+            run,
+            JOB.as_bytes(),
+            events.as_bytes(),
+            Failing::Nothing,
+            left,
+        )?;
+    }
+    Ok(())
+}
+
+#[test]
+fn late_rows_are_dropped_where_the_job_says_so(rt: HostRuntime) -> Result<(), Fail> {
+    let job =
+        b"vertex = [{ name = 'in', op = 'source', file = 'in.csv', late = 'drop' }, { name = 'out', op = 'sink', inputs = ['in'], file = 'out.csv' }]";
+    let left = Left {
+        status: 0,
+        out: "cti,10\nend\n",
+        output: "sink out 2\ndone\n",
+        error: "",
+    };
+    let events = b"cti,10\nevent,9,12,k,1,0\n";
+    check_left(
+        &rt,
+        rt.alloc(),
+        "a late row",
+        &["run", "job.toml"],
+        job,
+        events,
+        Failing::Nothing,
+        left,
+    )
 }
 
 #[test]

@@ -7,8 +7,8 @@ use Rattle.std.specs.Str.Parse.{digits_value, digits_value_after}
 use Rattle.ss_events.proofs.DigitsGrow.{le-digits_value_after}
 use Rattle.ss_events.proofs.number.number_below.Goals as goal
 
-pub returns-then-next-from : goal.returns-then-next-from
-returns-then-next-from c =
+pub returns-then-next-from-clause-number : goal.returns-then-next-from-clause-number
+returns-then-next-from-clause-number c =
     let digits = c.args.digits.now in
     let place = c.digits.byte-index in
     let next = c.digits.value * 10 + digit_value (get_or digits place 0) in

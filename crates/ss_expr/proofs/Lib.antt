@@ -1,0 +1,13 @@
+pub mod CloseSteps
+pub mod Complete
+pub mod DigitsGrow
+pub mod Exact
+pub mod LawFacts
+pub mod Misfits
+pub mod Places
+pub mod Printed
+pub mod Scans
+pub mod Sound
+pub mod Stops
+pub mod Whys
+pub mod Written

@@ -1,0 +1,15 @@
+pub mod Answers
+pub mod Examples
+pub mod Expressions
+pub mod Grammar
+pub mod Kinds
+pub mod Laws
+pub mod Limits
+pub mod Node
+pub mod Printing
+pub mod Reading
+pub mod Stacks
+pub mod Tokens
+pub mod Tree
+pub mod TreeCode
+pub mod Values
