@@ -1,14 +1,14 @@
 -- A key text's number, and the text back from it.
-use Rattle.std.proofs.Common.{◌≡◌, ℕ, zero, suc, ◌+◌, ◌*◌, ◌/◌, ◌%◌, ◌-◌, ◌^◌, ◌<◌, ◌≤◌, Bool, true, false, ◌&&◌, List, [], ◌∷◌, ◌++◌, length, take, drop, get_or, replicate, nat_eq, nat_lt, nat_le, refl, sym, ap, ◌∙◌, arith, lit<, Option, Some, None, if◌then◌else◌}
+use Rattle.std.proofs.Common.{◌≡◌, ℕ, zero, suc, ◌+◌, ◌*◌, ◌/◌, ◌%◌, ◌-◌, ◌^◌, ◌<◌, ◌≤◌, Bool, true, false, ◌&&◌, List, [], ◌∷◌, ◌++◌, length, take, drop, get_or, replicate, nat_eq, nat_lt, nat_le, refl, sym, ap, ◌∙◌, arith, lit<, Some, None, if◌then◌else◌}
 use Rattle.std.proofs.Math.Nat.{pow-suc, one-le-pow, mul-add-div_right, mul-add-mod_self_right, mul-le-mul_left}
-use Rattle.std.proofs.lemmas.Nat.{pow-add, div-mul-add, mod-mul-add}
+use Rattle.std.proofs.lemmas.Nat.{pow-add, div-mul-add}
 use Rattle.std.proofs.Math.Seq.{take-append_seam}
 use Rattle.std.proofs.lemmas.List.{get_or-drop, drop-drop}
 use Rattle.std.proofs.lemmas.List.Folds.{list_all_at}
 use Rattle.std.proofs.lemmas.Option.{slice_get_within, get_or_from_slice_get}
 use Rattle.std.specs.List.{list_all, prefix_len, take_while}
 use Rattle.std.specs.Int.{w128, byte_at, bytes_high_first, to_be_bytes}
-use Rattle.ss_elem.specs.Key.{is_key_byte, is_key_text, weigh, key_number, key_text, key_of, is_not_zero, IsKeyNumber, IsFirstBadByte}
+use Rattle.ss_elem.specs.Key.{is_key_byte, is_key_text, weight, key_number, key_text, key_of, is_not_zero, IsKeyNumber, IsFirstBadByte}
 
 -- every byte is one, and none is zero
 abbrev pub is_plain : ℕ → Bool
@@ -17,9 +17,9 @@ is_plain b = nat_lt 0 b && nat_lt b 256
 pub plain_byte : (b : ℕ) → is_key_byte b ≡ true → is_plain b ≡ true
 plain_byte b h = grind arith
 
-pub weigh-nil : (k : ℕ) → weigh k [] ≡ 0
-weigh-nil zero = refl
-weigh-nil (suc k) = refl
+pub weight-nil : (k : ℕ) → weight k [] ≡ 0
+weight-nil zero = refl
+weight-nil (suc k) = refl
 
 pub all_head : (p : ℕ → Bool) (b : ℕ) (text : List ℕ) → list_all p (b ∷ text) ≡ true → p b ≡ true
 all_head p b text h = grind arith
@@ -28,11 +28,11 @@ pub all_tail : (p : ℕ → Bool) (b : ℕ) (text : List ℕ) → list_all p (b 
 all_tail p b text h = grind arith
 
 -- a text of k bytes fits k places
-pub weigh-lt : (k : ℕ) (text : List ℕ) → list_all is_plain text ≡ true → weigh k text < 256 ^ k
-weigh-lt zero text h = lit< tt
-weigh-lt (suc k) [] h = one-le-pow (suc k) 256 (lit< tt)
-weigh-lt (suc k) (b ∷ text) h =
-    let rest : weigh k text < 256 ^ k = weigh-lt k text (all_tail is_plain b text h) in
+pub weight-lt : (k : ℕ) (text : List ℕ) → list_all is_plain text ≡ true → weight k text < 256 ^ k
+weight-lt zero text h = lit< tt
+weight-lt (suc k) [] h = one-le-pow (suc k) 256 (lit< tt)
+weight-lt (suc k) (b ∷ text) h =
+    let rest : weight k text < 256 ^ k = weight-lt k text (all_tail is_plain b text h) in
     let byte : is_plain b ≡ true = all_head is_plain b text h in
     let small : b + 1 ≤ 256 = grind arith in
     rw (pow-suc 256 k) (omega (arith, rest, mul-le-mul_left (256 ^ k) small))
@@ -46,7 +46,7 @@ byte_at-is (suc i) n = refl
 pub byte_at-front : (i j x m : ℕ) → byte_at i (x * 256 ^ (suc j + i) + m) ≡ byte_at i m
 byte_at-front i j x m =
     let power : x * 256 ^ (suc j + i) ≡ x * 256 ^ j * 256 * 256 ^ i =
-        ap (λ (p : ℕ). x * p) (pow-add 256 (suc j) i ∙ ap (λ (p : ℕ). p * 256 ^ i) (pow-suc 256 j)) ∙ omega arith in
+    ap (λ (p : ℕ). x * p) (pow-add 256 (suc j) i ∙ ap (λ (p : ℕ). p * 256 ^ i) (pow-suc 256 j)) ∙ omega arith in
     byte_at-is i (x * 256 ^ (suc j + i) + m)
     ∙ ap (λ (n : ℕ). (n + m) / 256 ^ i % 256) power
     ∙ ap (λ (n : ℕ). n % 256) (mul-add-div_right (one-le-pow i 256 (lit< tt)) (x * 256 ^ j * 256) m)
@@ -70,22 +70,22 @@ padded zero text = []
 padded (suc k) [] = 0 ∷ padded k []
 padded (suc k) (b ∷ text) = b ∷ padded k text
 
-pub bytes-weigh : (k : ℕ) (text : List ℕ) → list_all is_plain text ≡ true → bytes_high_first k (weigh k text) ≡ padded k text
-bytes-weigh zero text h = refl
-bytes-weigh (suc k) [] h =
+pub bytes-weight : (k : ℕ) (text : List ℕ) → list_all is_plain text ≡ true → bytes_high_first k (weight k text) ≡ padded k text
+bytes-weight zero text h = refl
+bytes-weight (suc k) [] h =
     let none : 0 * 256 ^ k + 0 ≡ 0 = omega arith in
     let first : byte_at k 0 ≡ 0 = rw none at (byte_at-first k 0 0 (lit< tt) (one-le-pow k 256 (lit< tt))) in
-    let rest : bytes_high_first k 0 ≡ padded k [] = rw (weigh-nil k) at (bytes-weigh k [] refl) in
+    let rest : bytes_high_first k 0 ≡ padded k [] = rw (weight-nil k) at (bytes-weight k [] refl) in
     cc
-bytes-weigh (suc k) (b ∷ text) h =
-    let few : weigh k text < 256 ^ k = weigh-lt k text (all_tail is_plain b text h) in
+bytes-weight (suc k) (b ∷ text) h =
+    let few : weight k text < 256 ^ k = weight-lt k text (all_tail is_plain b text h) in
     let byte : is_plain b ≡ true = all_head is_plain b text h in
     let small : b < 256 = grind arith in
-    let first : byte_at k (b * 256 ^ k + weigh k text) ≡ b = byte_at-first k b (weigh k text) small few in
-    let rest : bytes_high_first k (weigh k text) ≡ padded k text = bytes-weigh k text (all_tail is_plain b text h) in
-    let front : bytes_high_first k (b * 256 ^ (0 + k) + weigh k text) ≡ bytes_high_first k (weigh k text) = bytes-front k 0 b (weigh k text) in
+    let first : byte_at k (b * 256 ^ k + weight k text) ≡ b = byte_at-first k b (weight k text) small few in
+    let rest : bytes_high_first k (weight k text) ≡ padded k text = bytes-weight k text (all_tail is_plain b text h) in
+    let front : bytes_high_first k (b * 256 ^ (0 + k) + weight k text) ≡ bytes_high_first k (weight k text) = bytes-front k 0 b (weight k text) in
     let same : 0 + k ≡ k = omega arith in
-    let front_too : bytes_high_first k (b * 256 ^ k + weigh k text) ≡ bytes_high_first k (weigh k text) = rw same at front in
+    let front_too : bytes_high_first k (b * 256 ^ k + weight k text) ≡ bytes_high_first k (weight k text) = rw same at front in
     cc
 
 pub padded-is : (k : ℕ) (text : List ℕ) → length text ≤ k → padded k text ≡ text ++ replicate (k - length text) 0
@@ -126,7 +126,7 @@ is_key text h = record { some = grind arith; few = grind arith; bytes = grind ar
 
 -- the sixteen bytes of a key's number
 pub bytes-key_number : (text : List ℕ) → IsKey text → to_be_bytes w128 (key_number text) ≡ text ++ replicate (16 - length text) 0
-bytes-key_number text k = bytes-weigh 16 text (all_plain text k.bytes) ∙ padded-is 16 text k.few
+bytes-key_number text k = bytes-weight 16 text (all_plain text k.bytes) ∙ padded-is 16 text k.few
 
 pub key_text-key_number : (text : List ℕ) → IsKey text → key_text (key_number text) ≡ text
 key_text-key_number text k =
@@ -134,33 +134,33 @@ key_text-key_number text k =
     ∙ ap (λ (n : ℕ). take n (text ++ replicate (16 - length text) 0)) (prefix_len-text text (16 - length text) (all_plain text k.bytes))
     ∙ take-append_seam text (replicate (16 - length text) 0)
 
-pub weigh_one : (k : ℕ) (text : List ℕ) → weigh (suc k) text ≡ get_or text 0 0 * 256 ^ k + weigh k (drop 1 text)
-weigh_one k [] = sym (rw (weigh-nil k) (omega arith))
-weigh_one k (b ∷ text) = refl
+pub weight_one : (k : ℕ) (text : List ℕ) → weight (suc k) text ≡ get_or text 0 0 * 256 ^ k + weight k (drop 1 text)
+weight_one k [] = sym (rw (weight-nil k) (omega arith))
+weight_one k (b ∷ text) = refl
 
 -- one more byte of a text is read: the number so far takes it as its last place
 pub read_one : (n p w : ℕ) (text : List ℕ) → p < 16 →
-    n * 256 ^ (16 - p) + weigh (16 - p) (drop p text) ≡ w →
-    (n * 256 + get_or text p 0) * 256 ^ (16 - (p + 1)) + weigh (16 - (p + 1)) (drop (p + 1) text) ≡ w
+    n * 256 ^ (16 - p) + weight (16 - p) (drop p text) ≡ w →
+    (n * 256 + get_or text p 0) * 256 ^ (16 - (p + 1)) + weight (16 - (p + 1)) (drop (p + 1) text) ≡ w
 read_one n p w text inside h =
     let k : ℕ = 16 - (p + 1) in
     let more : 16 - p ≡ suc (16 - (p + 1)) = omega arith in
     let here : get_or (drop p text) 0 0 ≡ get_or text p 0 = get_or-drop p text 0 0 ∙ ap (λ (i : ℕ). get_or text i 0) (omega arith) in
     let rest : drop 1 (drop p text) ≡ drop (p + 1) text = drop-drop 1 p text in
-    let opened : weigh (16 - p) (drop p text) ≡ get_or text p 0 * 256 ^ (16 - (p + 1)) + weigh (16 - (p + 1)) (drop (p + 1) text) =
-        ap (λ (j : ℕ). weigh j (drop p text)) more
-        ∙ weigh_one (16 - (p + 1)) (drop p text)
-        ∙ ap (λ (b : ℕ). b * 256 ^ (16 - (p + 1)) + weigh (16 - (p + 1)) (drop 1 (drop p text))) here
-        ∙ ap (λ (t : List ℕ). get_or text p 0 * 256 ^ (16 - (p + 1)) + weigh (16 - (p + 1)) t) rest in
+    let opened : weight (16 - p) (drop p text) ≡ get_or text p 0 * 256 ^ (16 - (p + 1)) + weight (16 - (p + 1)) (drop (p + 1) text) =
+    ap (λ (j : ℕ). weight j (drop p text)) more
+    ∙ weight_one (16 - (p + 1)) (drop p text)
+    ∙ ap (λ (b : ℕ). b * 256 ^ (16 - (p + 1)) + weight (16 - (p + 1)) (drop 1 (drop p text))) here
+    ∙ ap (λ (t : List ℕ). get_or text p 0 * 256 ^ (16 - (p + 1)) + weight (16 - (p + 1)) t) rest in
     let power : 256 ^ (16 - p) ≡ 256 ^ (16 - (p + 1)) * 256 = ap (λ (j : ℕ). 256 ^ j) more ∙ pow-suc 256 (16 - (p + 1)) in
     let whole : n * 256 ^ (16 - p) ≡ n * (256 ^ (16 - (p + 1)) * 256) = ap (λ (q : ℕ). n * q) power in
     omega (arith, opened, whole, h)
 
 -- so no number on the way is too large
 pub read-fits : (n p : ℕ) (text : List ℕ) → p ≤ 16 → list_all is_key_byte text ≡ true →
-    n * 256 ^ (16 - p) + weigh (16 - p) (drop p text) ≡ weigh 16 text → n < 2 ^ 128
+    n * 256 ^ (16 - p) + weight (16 - p) (drop p text) ≡ weight 16 text → n < 2 ^ 128
 read-fits n p text inside h e =
-    let top : weigh 16 text < 256 ^ 16 = weigh-lt 16 text (all_plain text h) in
+    let top : weight 16 text < 256 ^ 16 = weight-lt 16 text (all_plain text h) in
     let power : 1 ≤ 256 ^ (16 - p) = one-le-pow (16 - p) 256 (lit< tt) in
     let least : n * 1 ≤ n * 256 ^ (16 - p) = mul-le-mul_left n power in
     omega (arith, top, least, e)

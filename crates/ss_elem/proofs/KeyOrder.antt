@@ -1,5 +1,5 @@
 -- Numbers of keys compare as their texts do.
-use Rattle.std.proofs.Common.{◌≡◌, ℕ, zero, suc, ◌+◌, ◌*◌, ◌^◌, ◌<◌, ◌≤◌, true, List, [], ◌∷◌, length, nat_cmp, refl, sym, ap, ◌∙◌, subst, arith, lit<}
+use Rattle.std.proofs.Common.{◌≡◌, ℕ, zero, suc, ◌+◌, ◌*◌, ◌^◌, ◌<◌, ◌≤◌, true, List, [], ◌∷◌, length, nat_cmp, refl, sym, arith, lit<}
 use Rattle.std.proofs.Math.Nat.{one-le-pow, mul-le-mul_left}
 use Rattle.std.specs.Cmp.{nat_cmp_is, ranks}
 use Rattle.std.specs.Cmp.Lexicographic.{slice_cmp}
@@ -7,8 +7,8 @@ use Rattle.std.specs.List.{list_all}
 use Rattle.std.specs.Ordering.{MatchOrdering, ordering_then}
 use Rattle.std.specs.declared.cmp.Ordering.{Ordering}
 use Rattle.std.specs.declared.cmp.Ordering.TheVariants.{Less, Equal, Greater}
-use Rattle.ss_elem.specs.Key.{is_key_text, weigh, key_number, KeyOrderIsTextOrder}
-use Rattle.ss_elem.proofs.KeyNumbers.{is_plain, all_head, all_tail, all_plain, weigh-nil, weigh-lt, IsKey, is_key}
+use Rattle.ss_elem.specs.Key.{weight, key_number, KeyOrderIsTextOrder}
+use Rattle.ss_elem.proofs.KeyNumbers.{is_plain, all_head, all_tail, all_plain, weight-lt, IsKey, is_key}
 
 -- the order of two numbers
 abbrev pub Ranks : Ordering → ℕ → ℕ → Type 0
@@ -32,24 +32,24 @@ ranks-first p a b m n Equal few few_too tail Equal h = cc
 ranks-first p a b m n Greater few few_too tail Equal h = rw h (omega arith)
 ranks-first p a b m n rest few few_too tail Greater h = outweighs p b a n m h few_too
 
-pub weigh-ranks : (k : ℕ) (x y : List ℕ) → length x ≤ k → length y ≤ k → list_all is_plain x ≡ true → list_all is_plain y ≡ true → Ranks (slice_cmp nat_cmp x y) (weigh k x) (weigh k y)
-weigh-ranks k [] [] few few_too plain plain_too = refl
-weigh-ranks zero (a ∷ x) y few few_too plain plain_too = absurd (omega (arith, few))
-weigh-ranks zero [] (b ∷ y) few few_too plain plain_too = absurd (omega (arith, few_too))
-weigh-ranks (suc k) [] (b ∷ y) few few_too plain plain_too =
-    plain_above b (256 ^ k) (weigh k y) (all_head is_plain b y plain_too) (one-le-pow k 256 (lit< tt))
-weigh-ranks (suc k) (a ∷ x) [] few few_too plain plain_too =
-    plain_above a (256 ^ k) (weigh k x) (all_head is_plain a x plain) (one-le-pow k 256 (lit< tt))
-weigh-ranks (suc k) (a ∷ x) (b ∷ y) few few_too plain plain_too =
+pub weight-ranks : (k : ℕ) (x y : List ℕ) → length x ≤ k → length y ≤ k → list_all is_plain x ≡ true → list_all is_plain y ≡ true → Ranks (slice_cmp nat_cmp x y) (weight k x) (weight k y)
+weight-ranks k [] [] few few_too plain plain_too = refl
+weight-ranks zero (a ∷ x) y few few_too plain plain_too = absurd (omega (arith, few))
+weight-ranks zero [] (b ∷ y) few few_too plain plain_too = absurd (omega (arith, few_too))
+weight-ranks (suc k) [] (b ∷ y) few few_too plain plain_too =
+    plain_above b (256 ^ k) (weight k y) (all_head is_plain b y plain_too) (one-le-pow k 256 (lit< tt))
+weight-ranks (suc k) (a ∷ x) [] few few_too plain plain_too =
+    plain_above a (256 ^ k) (weight k x) (all_head is_plain a x plain) (one-le-pow k 256 (lit< tt))
+weight-ranks (suc k) (a ∷ x) (b ∷ y) few few_too plain plain_too =
     let tail_x : list_all is_plain x ≡ true = all_tail is_plain a x plain in
     let tail_y : list_all is_plain y ≡ true = all_tail is_plain b y plain_too in
-    let rest : Ranks (slice_cmp nat_cmp x y) (weigh k x) (weigh k y) =
-        weigh-ranks k x y (omega (arith, few)) (omega (arith, few_too)) tail_x tail_y in
-    ranks-first (256 ^ k) a b (weigh k x) (weigh k y) (slice_cmp nat_cmp x y) (weigh-lt k x tail_x) (weigh-lt k y tail_y) rest (nat_cmp a b) (ranks a b)
+    let rest : Ranks (slice_cmp nat_cmp x y) (weight k x) (weight k y) =
+    weight-ranks k x y (omega (arith, few)) (omega (arith, few_too)) tail_x tail_y in
+    ranks-first (256 ^ k) a b (weight k x) (weight k y) (slice_cmp nat_cmp x y) (weight-lt k x tail_x) (weight-lt k y tail_y) rest (nat_cmp a b) (ranks a b)
 
 pub key_order : KeyOrderIsTextOrder
 key_order x y hx hy =
     let key_x : IsKey x = is_key x hx in
     let key_y : IsKey y = is_key y hy in
     sym (nat_cmp_is (key_number x) (key_number y) (slice_cmp nat_cmp x y)
-        (weigh-ranks 16 x y key_x.few key_y.few (all_plain x key_x.bytes) (all_plain y key_y.bytes)))
+    (weight-ranks 16 x y key_x.few key_y.few (all_plain x key_x.bytes) (all_plain y key_y.bytes)))

@@ -14,14 +14,14 @@ abbrev pub is_key_text : List ℕ → Bool
 is_key_text text = nat_lt 0 (length text) && nat_le (length text) 16 && list_all is_key_byte text
 
 -- the text as the digits of a number of k places in base 256, padded with zeros behind
-abbrev pub weigh : ℕ → List ℕ → ℕ
-weigh zero text = 0
-weigh (suc k) [] = 0
-weigh (suc k) (b ∷ text) = b * 256 ^ k + weigh k text
+abbrev pub weight : ℕ → List ℕ → ℕ
+weight zero text = 0
+weight (suc k) [] = 0
+weight (suc k) (b ∷ text) = b * 256 ^ k + weight k text
 
 -- a key text's number
 abbrev pub key_number : List ℕ → ℕ
-key_number text = weigh 16 text
+key_number text = weight 16 text
 
 abbrev pub is_not_zero : ℕ → Bool
 is_not_zero b = not (b == 0)

@@ -8,8 +8,11 @@ pub struct Bound(u64);
 
 impl Model for Bound {
     ghost Value = { ℕ };
+
     ghost view = { λ b. b.0 };
+
     ghost invariant = { λ b. b.0 ≤ 2 ^ 63 };
+
     ghost inverse = { λ n. record { 0 = n } };
 }
 

@@ -1,6 +1,7 @@
 use crate::key::Key;
 
-/// A row of a stream: a key and two values that hold from `start` up to, and without, `end`.
+/// A row of a stream: a key and two values that hold from `start` up to, and without, `end`. Times have no unit of
+/// their own; in a valid stream they are below 2^63.
 #[derive(Clone, Copy, Debug, PartialEq, Eq)]
 pub struct Event {
     /// The first time at which the row holds.
@@ -20,7 +21,7 @@ pub struct Event {
 pub enum Element {
     /// A row.
     Row(Event),
-    /// A current-time increment: no later row of the stream starts before this time.
+    /// A current-time increment: no later row of the stream starts before this time, which is at least 1.
     Cti(u64),
     /// The end of the stream: nothing follows.
     End,

@@ -1,4 +1,4 @@
-ghost use Rattle.std.specs.Prelude.{◌≡◌, ℕ, ◌+◌, ◌-◌, ◌≤◌, ◌++◌, Bool, true, false, length, take, replicate, slice_index, IfErr, IfSome, IfNone, Option, Some};
+ghost use Rattle.std.specs.Prelude.{◌≡◌, ℕ, ◌-◌, ◌≤◌, ◌++◌, true, length, replicate, slice_index, IfErr, IfSome, IfNone, Some};
 ghost use Rattle.std.specs.List.{list_all};
 ghost use Rattle.std.specs.Result.{result_ok};
 ghost use Rattle.ss_elem.specs.Key.{is_key_byte, key_number, key_of, key_text, IsFirstBadByte, IsKeyNumber};
@@ -17,8 +17,11 @@ pub struct Key(u128);
 
 impl Model for Key {
     ghost Value = { ℕ };
+
     ghost view = { λ k. k.0 };
+
     ghost invariant = { λ k. IsKeyNumber k.0 };
+
     ghost inverse = { λ n. record { 0 = n } };
 }
 
@@ -43,10 +46,15 @@ impl Key {
             return Err(BadKey::Empty);
         }
         if bytes.len() > MOST_BYTES {
-            return Err(BadKey::TooLong { len: bytes.len() as u64 });
+            return Err(BadKey::TooLong {
+                len: bytes.len() as u64,
+            });
         }
         match first_bad_byte(bytes) {
-            Some((at, byte)) => Err(BadKey::BadByte { at: at as u64, byte }),
+            Some((at, byte)) => Err(BadKey::BadByte {
+                at: at as u64,
+                byte,
+            }),
             None => Ok(Key(number_of(bytes))),
         }
     }
@@ -64,7 +72,7 @@ impl Key {
     }
 }
 
-fn may_stand(byte: u8) -> bool
+fn is_key_byte(byte: u8) -> bool
     ensures { result ≡ is_key_byte byte }
 {
     0x21 <= byte && byte <= 0x7e && byte != b',' && byte != b'"'
@@ -75,7 +83,7 @@ fn first_bad_byte(bytes: &[u8]) -> Option<(usize, u8)>
     ensures none { IfNone result (list_all is_key_byte bytes.now ≡ true) }
 {
     for (at, byte) in bytes.iter().enumerate() {
-        if !may_stand(*byte) {
+        if !is_key_byte(*byte) {
             return Some((at, *byte));
         }
     }

@@ -6,9 +6,9 @@ mod element;
 mod key;
 mod key_order;
 mod line_buf;
-mod validity;
 #[cfg(test)]
 mod tests;
+mod validity;
 
 pub use bound::Bound;
 pub use element::{Element, Event};

@@ -3,12 +3,11 @@ ghost use Rattle.std.specs.Fmt.{decimal, signed_decimal};
 ghost use Rattle.ss_elem.specs.Key.{key_text};
 ghost use Rattle.ss_elem.specs.Line.{line_of};
 
+use crate::element::{Element, Event};
+use crate::key::Key;
 use arrayvec::ArrayVec;
 use itoa::Buffer;
 use std::marker::Model;
-
-use crate::element::{Element, Event};
-use crate::key::Key;
 
 const LINE_BYTES: usize = 160;
 
@@ -20,6 +19,7 @@ pub struct LineBuf {
 
 impl Model for LineBuf {
     ghost Value = { List ℕ };
+
     ghost view = { λ b. b.bytes.items };
 }
 
@@ -28,7 +28,9 @@ impl LineBuf {
     pub fn new() -> LineBuf
         ensures { result ≡ [] }
     {
-        LineBuf { bytes: ArrayVec::new() }
+        LineBuf {
+            bytes: ArrayVec::new(),
+        }
     }
 
     /// The line's bytes.

@@ -1,4 +1,6 @@
-use super::{BadKey, Bound, Element, Event, Key, LineBuf, NotNext, key_order_is_text_order, line, valid_next};
+use super::{
+    BadKey, Bound, Element, Event, Key, LineBuf, NotNext, key_order_is_text_order, line, valid_next,
+};
 
 #[test]
 fn keys_have_1_to_16_bytes_of_their_range(rt: HostRuntime) {
@@ -43,7 +45,13 @@ fn keys_compare_as_their_texts(rt: HostRuntime) {
 /// A row of the key `k`, with the least and the greatest value.
 fn row(start: u64, end: u64) -> Element {
     match Key::of(b"k") {
-        Ok(key) => Element::Row(Event { start, end, key, a: i64::MIN, b: i64::MAX }),
+        Ok(key) => Element::Row(Event {
+            start,
+            end,
+            key,
+            a: i64::MIN,
+            b: i64::MAX,
+        }),
         Err(_) => Element::End,
     }
 }
@@ -63,19 +71,33 @@ fn each_refusal_of_an_element_comes_in_its_order(rt: HostRuntime) {
         (five, row(4, 4), Err(NotNext::EmptySpan)),
         (five, row(4, 6), Err(NotNext::Early { start: 4, bound: 5 })),
         (five, Element::Cti(TOP), Err(NotNext::Far { time: TOP })),
-        (five, Element::Cti(5), Err(NotNext::Backward { time: 5, bound: 5 })),
-        (Bound::ZERO, Element::Cti(0), Err(NotNext::Backward { time: 0, bound: 0 })),
+        (
+            five,
+            Element::Cti(5),
+            Err(NotNext::Backward { time: 5, bound: 5 }),
+        ),
+        (
+            Bound::ZERO,
+            Element::Cti(0),
+            Err(NotNext::Backward { time: 0, bound: 0 }),
+        ),
     ];
     assert_eq!(rt; five.get(), 5);
     for (bound, element, answer) in cases {
-        assert!(rt; valid_next(bound, &element) == answer, "{element:?} at {bound:?}");
+        assert!(rt;
+            valid_next(bound, &element) == answer,
+            "{element:?} at {bound:?}"
+        );
     }
 }
 
 #[test]
 fn lines_are_in_plain_decimal(rt: HostRuntime) {
     let cases: [(Element, &[u8]); 3] = [
-        (row(0, u64::MAX), b"event,0,18446744073709551615,k,-9223372036854775808,9223372036854775807\n"),
+        (
+            row(0, u64::MAX),
+            b"event,0,18446744073709551615,k,-9223372036854775808,9223372036854775807\n",
+        ),
         (Element::Cti(10), b"cti,10\n"),
         (Element::End, b"end\n"),
     ];

@@ -54,7 +54,10 @@ fn row_next(bound: Bound, event: &Event) -> Result<Bound, NotNext>
         return Err(NotNext::EmptySpan);
     }
     if event.start < bound.get() {
-        return Err(NotNext::Early { start: event.start, bound: bound.get() });
+        return Err(NotNext::Early {
+            start: event.start,
+            bound: bound.get(),
+        });
     }
     Ok(bound)
 }
@@ -68,7 +71,10 @@ fn cti_next(bound: Bound, time: u64) -> Result<Bound, NotNext>
         return Err(NotNext::Far { time });
     }
     if time <= bound.get() {
-        return Err(NotNext::Backward { time, bound: bound.get() });
+        return Err(NotNext::Backward {
+            time,
+            bound: bound.get(),
+        });
     }
     Ok(Bound::at(time))
 }

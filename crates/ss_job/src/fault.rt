@@ -15,6 +15,7 @@ pub struct JobFault {
     /// The vertex at fault, counted from 0 in the order of the file. `None` where the fault is the
     /// whole document's.
     pub vertex: Option<u32>,
+    /// What is wrong.
     pub why: JobWhy,
 }
 

@@ -2,7 +2,7 @@
 
 ghost use Rattle.std.specs.Prelude.{◌≡◌, ℕ};
 
-/// A durable store. As yet it has nothing but its count of faults.
+/// A durable store, of which contracts see the count of faults.
 pub trait Depot: Drop {
     ghost count: { Self → ℕ };
 

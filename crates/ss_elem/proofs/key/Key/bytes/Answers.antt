@@ -1,5 +1,4 @@
-use Rattle.std.proofs.Common.{◌≡◌, ℕ, sym, ◌∙◌, subst}
-use Rattle.ss_elem.specs.Key.{IsKeyNumber}
+use Rattle.std.proofs.Common.{◌∙◌}
 use Rattle.ss_elem.proofs.KeyNumbers.{key_facts}
 use Rattle.ss_elem.proofs.key.Key.bytes.Goals as goal
 
