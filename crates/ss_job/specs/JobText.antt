@@ -1,24 +1,71 @@
 -- What a job says.
-use Rattle.std.specs.Prelude.{ℕ, zero, suc, List}
+use Rattle.std.specs.Prelude.{ℕ, List, Option, Some, None, option_map, option_and_then, slice_get}
 use Rattle.ss_events.specs.declared.late.Late.{Late}
+use Rattle.ss_expr.specs.declared.stream_operator.Spec.{Spec}
+use Rattle.ss_expr.specs.declared.stream_operator.Spec.TheVariants as spec
+use Rattle.ss_fail.specs.declared.role.Role.{Role}
+use Rattle.ss_job.specs.declared.op.Op.{Op}
+use Rattle.ss_job.specs.declared.op.Op.TheVariants as op
+use Rattle.ss_job.specs.declared.policy.Policy.{Policy}
+use Rattle.ss_water.specs.declared.node.Node.{Node}
 
--- what a job says of one vertex
-pub record VertexText : Type 0 where
-  pub name : List ℕ
-  pub file : List ℕ
+-- what a vertex does: a source has a file and what becomes of rows that come late, a sink has a file
+pub data VertexText : Type 0 where
+  source : List ℕ → Late → VertexText
+  inner : Spec → Policy → VertexText
+  sink : List ℕ → VertexText
 
--- what a job says of a source: besides, what becomes of the rows of its file that come late
-pub record SourceText : Type 0 where
-  pub name : List ℕ
-  pub file : List ℕ
-  pub late : Late
-
--- what a job of one source and one sink says
+-- a job, its vertices in the order of the file: which reads which, their names and kinds, and what each does
 pub record JobText : Type 0 where
-  pub source : SourceText
-  pub sink : VertexText
+  pub graph : List Node
+  pub roles : List Role
+  pub vertices : List VertexText
+  pub max_elements : ℕ
+  pub collect_every : ℕ
 
--- the vertex of a number: 0 is the source, and 1 the sink
-abbrev pub vertex_of : JobText → ℕ → VertexText
-vertex_of job zero = record { name = job.source.name; file = job.source.file }
-vertex_of job (suc _) = job.sink
+abbrev pub op_of_spec : Spec → Op
+op_of_spec (spec.Select test a b) = op.Select
+op_of_spec spec.Union = op.Union
+op_of_spec (spec.Window size hop agg of) = op.Window
+op_of_spec spec.Join = op.Join
+
+abbrev pub op_of_vertex : VertexText → Op
+op_of_vertex (source file late) = op.Source
+op_of_vertex (inner s policy) = op_of_spec s
+op_of_vertex (sink file) = op.Sink
+
+abbrev pub file_of_vertex : VertexText → Option (List ℕ)
+file_of_vertex (source file late) = Some file
+file_of_vertex (inner s policy) = None
+file_of_vertex (sink file) = Some file
+
+abbrev pub late_of_vertex : VertexText → Option Late
+late_of_vertex (source file late) = Some late
+late_of_vertex (inner s policy) = None
+late_of_vertex (sink file) = None
+
+abbrev pub spec_of_vertex : VertexText → Option Spec
+spec_of_vertex (source file late) = None
+spec_of_vertex (inner s policy) = Some s
+spec_of_vertex (sink file) = None
+
+abbrev pub policy_of_vertex : VertexText → Option Policy
+policy_of_vertex (source file late) = None
+policy_of_vertex (inner s policy) = Some policy
+policy_of_vertex (sink file) = None
+
+-- what vertex number v is and has, where there is such a vertex and it has such a thing
+abbrev pub op_of : JobText → ℕ → Option Op
+op_of job v = option_map op_of_vertex (slice_get job.vertices v)
+
+abbrev pub file_of : JobText → ℕ → Option (List ℕ)
+file_of job v = option_and_then file_of_vertex (slice_get job.vertices v)
+
+abbrev pub late_of : JobText → ℕ → Option Late
+late_of job v = option_and_then late_of_vertex (slice_get job.vertices v)
+
+abbrev pub spec_of : JobText → ℕ → Option Spec
+spec_of job v = option_and_then spec_of_vertex (slice_get job.vertices v)
+
+abbrev pub policy_of : JobText → ℕ → Option Policy
+policy_of job v = option_and_then policy_of_vertex (slice_get job.vertices v)

@@ -1,8 +1,11 @@
-pub mod Borrowed
 pub mod Document
 pub mod Fault
+pub mod Faults
+pub mod Format
+pub mod JobIn
 pub mod JobText
+pub mod Lookup
 pub mod Names
 pub mod Owned
-pub mod Reading
 pub mod Says
+pub mod Wrong

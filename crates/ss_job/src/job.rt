@@ -1,25 +1,23 @@
 //! A job.
-ghost use Rattle.std.specs.Prelude.{◌≡◌, ◌<◌, IfOk};
+ghost use Rattle.std.specs.Prelude.{◌≡◌, ◌<◌, Some, length, option_map, IsSome};
 
-use crate::texts::{JobTexts, VertexTexts};
+use crate::op::Op;
+use crate::policy::Policy;
+use crate::vertex::Vertex;
 use ss_events::Late;
-use std::alloc::{AllocError, Global};
+use ss_expr::Spec;
+use ss_fail::Role;
+use ss_water::Graph;
 use std::marker::Model;
 
-/// A job of one source and one sink. Its vertices are numbered in the order of the file: the source
-/// is 0 and the sink is 1.
-#[derive(Debug, Drop)]
+/// A job. Its vertices are numbered from 0 in the order of the file.
+#[derive(Drop)]
 pub struct Job {
-    source: Vertex,
-    late: Late,
-    sink: Vertex,
-}
-
-/// The texts of one vertex.
-#[derive(Debug, Drop)]
-struct Vertex {
-    name: String,
-    file: String,
+    graph: Graph,
+    roles: Vec<Role>,
+    vertices: Vec<Vertex>,
+    max_elements: u64,
+    collect_every: u64,
 }
 
 impl Model for Job {
@@ -27,71 +25,106 @@ impl Model for Job {
 
     ghost Value = { JobText };
 
+    ghost use Rattle.ss_expr.specs.contracts.stream_operator.Spec as spec;
+    ghost use Rattle.std.specs.Coded.{codes};
+
+    ghost coded = { Prim.hlevel (codes, spec.the_row.coded) };
+
     ghost use Rattle.ss_job.specs.Owned.{job_text};
 
     ghost view = { job_text };
 }
 
 impl Job {
-    ghost use Rattle.ss_job.specs.JobText.{vertex_of};
-    ghost use Rattle.ss_job.specs.Borrowed.{job_of_texts};
+    ghost use Rattle.ss_job.specs.JobText.{op_of, file_of, late_of, spec_of, policy_of};
 
-    /// A job with a copy of these texts.
-    pub(crate) fn new(alloc: Global, texts: &JobTexts) -> Result<Job, AllocError>
-        ensures { IfOk result (λ job. job ≡ job_of_texts texts.now) }
+    /// Which vertex reads which.
+    pub fn graph(&self) -> &Graph
+        ensures { result.now ≡ self.now.graph }
     {
-        let source = Vertex::new(alloc, &texts.source.vertex)?;
-        let sink = Vertex::new(alloc, &texts.sink)?;
-        Ok(Job {
-            source,
-            late: texts.source.late,
-            sink,
-        })
+        &self.graph
     }
 
-    /// The name of a vertex, 1 to 32 bytes of ASCII.
-    pub fn name(&self, v: u32) -> &str
-        requires { v < 2 }
-        ensures { result.now ≡ (vertex_of self.now v).name }
+    /// The vertices' names, kinds and replicas, in the order of their numbers.
+    pub fn roles(&self) -> &[Role]
+        ensures { result.now ≡ self.now.roles }
     {
-        if v == 0 {
-            self.source.name.as_str()
-        } else {
-            self.sink.name.as_str()
+        self.roles.as_slice()
+    }
+
+    /// What a vertex does.
+    pub fn op(&self, v: u32) -> Op
+        requires { v < length self.now.vertices }
+        ensures { op_of self.now v ≡ Some result }
+    {
+        match &self.vertices[v as usize] {
+            Vertex::Source { .. } => Op::Source,
+            Vertex::Inner { spec, .. } => match spec {
+                Spec::Select { .. } => Op::Select,
+                Spec::Union => Op::Union,
+                Spec::Window { .. } => Op::Window,
+                Spec::Join => Op::Join,
+            },
+            Vertex::Sink { .. } => Op::Sink,
         }
     }
 
-    /// The file of a vertex, 1 to 200 bytes of ASCII. The sink's is `-` where it writes to standard
+    /// What a vertex computes; `None` of a source and of a sink.
+    pub fn spec(&self, v: u32) -> Option<&Spec>
+        requires { v < length self.now.vertices }
+        ensures { option_map (λ spec. spec.now) result ≡ spec_of self.now v }
+    {
+        match &self.vertices[v as usize] {
+            Vertex::Source { .. } | Vertex::Sink { .. } => None,
+            Vertex::Inner { spec, .. } => Some(spec),
+        }
+    }
+
+    /// How an operator, a vertex that is neither source nor sink, is kept safe.
+    pub fn policy(&self, v: u32) -> Policy
+        requires { IsSome (policy_of self.now v) }
+        ensures { policy_of self.now v ≡ Some result }
+    {
+        match &self.vertices[v as usize] {
+            Vertex::Source { .. } | Vertex::Sink { .. } => unreachable!(),
+            Vertex::Inner { policy, .. } => *policy,
+        }
+    }
+
+    /// The file of a source or a sink, 1 to 200 bytes of ASCII. A sink's is `-` where it writes to standard
     /// output.
     pub fn file(&self, v: u32) -> &str
-        requires { v < 2 }
-        ensures { result.now ≡ (vertex_of self.now v).file }
+        requires { IsSome (file_of self.now v) }
+        ensures { file_of self.now v ≡ Some result.now }
     {
-        if v == 0 {
-            self.source.file.as_str()
-        } else {
-            self.sink.file.as_str()
+        match &self.vertices[v as usize] {
+            Vertex::Source { file, .. } | Vertex::Sink { file } => file.as_str(),
+            Vertex::Inner { .. } => unreachable!(),
         }
     }
 
-    /// What becomes of a row of the source's file that comes late.
+    /// What becomes of a row of a source's file that comes late.
     pub fn late(&self, v: u32) -> Late
-        requires { v < 1 }
-        ensures { result ≡ self.now.source.late }
+        requires { IsSome (late_of self.now v) }
+        ensures { late_of self.now v ≡ Some result }
     {
-        self.late
+        match &self.vertices[v as usize] {
+            Vertex::Source { late, .. } => *late,
+            Vertex::Inner { .. } | Vertex::Sink { .. } => unreachable!(),
+        }
     }
-}
 
-impl Vertex {
-    ghost use Rattle.ss_job.specs.Owned.{vertex_text};
-    ghost use Rattle.ss_job.specs.Borrowed.{vertex_of_texts};
-
-    fn new(alloc: Global, texts: &VertexTexts) -> Result<Vertex, AllocError>
-        ensures { IfOk result (λ vertex. vertex_text vertex ≡ vertex_of_texts texts.now) }
+    /// The most elements that a stream may have, 1 to 131,072.
+    pub fn max_elements(&self) -> u64
+        ensures { result ≡ self.now.max_elements }
     {
-        let name = String::from_str(alloc, texts.name)?;
-        let file = String::from_str(alloc, texts.file)?;
-        Ok(Vertex { name, file })
+        self.max_elements
+    }
+
+    /// How many elements may be stored between two passes of collection, 64 to 131,072.
+    pub fn collect_every(&self) -> u64
+        ensures { result ≡ self.now.collect_every }
+    {
+        self.collect_every
     }
 }

@@ -1,15 +1,18 @@
-//! Job files: a job of one source and one sink, read from the bytes of a TOML document.
+//! Job files: a job read from the bytes of a TOML document, or the first fault of the document.
 #![tactic(auto)]
 
-mod document;
 mod fault;
+mod field_name;
 mod job;
 mod names;
+mod op;
+mod policy;
 mod reader;
-#[cfg(test)]
-mod tests;
-mod texts;
+mod vertex;
 
 pub use fault::{JobFault, JobWhy, JobsFault};
+pub use field_name::FieldName;
 pub use job::Job;
+pub use op::Op;
+pub use policy::Policy;
 pub use reader::{one_reading, read_job};

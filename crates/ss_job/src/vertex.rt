@@ -1,0 +1,14 @@
+use crate::policy::Policy;
+use ss_events::Late;
+use ss_expr::Spec;
+
+/// What a vertex does, and what it needs for it.
+#[derive(Drop)]
+pub(crate) enum Vertex {
+    /// It gives the elements of a file; `late` says what becomes of rows that come late.
+    Source { file: String, late: Late },
+    /// It computes its elements from those of its inputs.
+    Inner { spec: Spec, policy: Policy },
+    /// It writes its input to a file, or to standard output where that is `-`.
+    Sink { file: String },
+}
