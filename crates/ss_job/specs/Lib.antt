@@ -8,4 +8,5 @@ pub mod Lookup
 pub mod Names
 pub mod Owned
 pub mod Says
+pub mod Sound
 pub mod Wrong

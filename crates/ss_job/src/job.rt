@@ -33,14 +33,20 @@ impl Model for Job {
     ghost use Rattle.ss_job.specs.Owned.{job_text};
 
     ghost view = { job_text };
+
+    ghost use Rattle.ss_job.specs.Sound.{IsJob};
+
+    ghost invariant = { λ job. IsJob (job_text job) };
 }
 
 impl Job {
+    ghost use Rattle.ss_job.specs.Sound.{IsJob};
     ghost use Rattle.ss_job.specs.JobText.{op_of, file_of, late_of, spec_of, policy_of};
 
     /// Which vertex reads which.
     pub fn graph(&self) -> &Graph
-        ensures { result.now ≡ self.now.graph }
+        ensures graph { result.now ≡ self.now.graph }
+        ensures job { IsJob self.now }
     {
         &self.graph
     }

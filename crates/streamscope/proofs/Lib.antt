@@ -1,4 +1,1 @@
-pub mod Ends
-pub mod Output
 pub mod Puts
-pub mod Texts

@@ -1,6 +1,6 @@
 pub mod Ends
 pub mod FaultText
+pub mod Output
 pub mod Puts
 pub mod Read
-pub mod Run
-pub mod Words
+pub mod Work

@@ -1,6 +1,11 @@
 -- What is put to the outputs.
-use Rattle.std.specs.Prelude.{◌≡◌, ℕ, ◌-◌, List, [], ◌∷◌, ◌++◌, length, take, option_map, if◌then◌else◌, bytes_eq}
+use Rattle.std.specs.Prelude.{◌≡◌, ℕ, ◌-◌, List, [], ◌∷◌, ◌++◌, length, map, take, Result, Ok, Err, option_map, if◌then◌else◌, bytes_eq}
+use Rattle.ss_elem.specs.Line.{line_of}
+use Rattle.ss_elem.specs.declared.element.Element.{Element}
+use Rattle.ss_outside.specs.Faults.{Rose}
 use Rattle.ss_outside.specs.Told.{Telling}
+use Rattle.ss_outside.specs.declared.outputs.PutFault.{PutFault}
+use Rattle.ss_outside.specs.declared.outputs.PutFault.TheVariants.{Failed, Memory}
 
 -- bytes that are put to a name
 pub record Put : Type 0 where
@@ -9,6 +14,10 @@ pub record Put : Type 0 where
 
 abbrev pub put_of : List ℕ → List ℕ → Put
 put_of name bytes = record { name = name; bytes = bytes }
+
+-- the lines of a list, each by a put of its own
+abbrev pub lines_to : List ℕ → List Element → List Put
+lines_to name list = map (λ element. put_of name (line_of element)) list
 
 -- the bytes of one name, in the order of the puts
 abbrev pub bytes_to : List ℕ → List Put → List ℕ
@@ -27,3 +36,13 @@ Puts old new puts = (name : List ℕ) → new name ≡ option_map (λ held. held
 -- the same of the first bytes of the puts, perhaps of all or of none
 abbrev pub PutsPart : Telling → Telling → List Put → Type 0
 PutsPart old new puts = (n : ℕ) × Puts old new (first_bytes n puts)
+
+-- the same of the first of the puts, each of them whole
+abbrev pub PutsFirst : Telling → Telling → List Put → Type 0
+PutsFirst old new puts = (count : ℕ) × Puts old new (take count puts)
+
+-- how these puts end: all stand, or the device failed in one of them, or memory was wanting between two
+abbrev pub Wrote : {A : Type 0} → Telling → Telling → ℕ → ℕ → List Put → Result A PutFault → Type 0
+Wrote old new faults_before faults_after puts (Ok _) = Puts old new puts
+Wrote old new faults_before faults_after puts (Err Failed) = PutsPart old new puts × Rose faults_before faults_after
+Wrote old new faults_before faults_after puts (Err Memory) = PutsFirst old new puts

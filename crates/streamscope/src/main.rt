@@ -1,14 +1,15 @@
 //! The program `streamscope`.
 #![tactic(auto)]
 
+mod check;
 mod fault;
 mod outside;
 mod perform;
 mod read;
 mod run;
-#[cfg(test)]
-mod tests;
-mod words;
+mod sources;
+mod summary;
+mod work;
 mod write;
 
 use crate::fault::Fault;
@@ -35,7 +36,7 @@ fn main(rt: HostRuntime) -> ExitCode {
     };
     let status = match words_of(&rt) {
         Ok(words) => perform(rt.alloc(), words.as_slice(), outside).status,
-        Err(error) => refuse(rt.alloc(), &[], &mut outside.outputs, fault_of(&error)),
+        Err(error) => refuse(rt.alloc(), "", &mut outside.outputs, fault_of(&error)),
     };
     ExitCode::from(status)
 }

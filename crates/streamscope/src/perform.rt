@@ -1,12 +1,16 @@
 ghost use Rattle.std.specs.Prelude.{◌≡◌, ◌≤◌, map, string_bytes};
+ghost use Rattle.ss_report.specs.FaultText.{fault_text};
+ghost use Rattle.ss_words.specs.Words.{command_of};
 ghost use Rattle.streamscope.specs.Ends.{Ends, TellsLine, seen};
-ghost use Rattle.streamscope.specs.FaultText.{fault_text, status_of};
+ghost use Rattle.streamscope.specs.FaultText.{NamesFile, line_of, status_of};
 
-use crate::fault::{Fault, fixed_text, named_text, status_of};
+use crate::fault::Fault;
 use crate::outside::{Done, Outside};
-use crate::run::run;
+use crate::work::work;
 use ss_job::one_reading;
 use ss_outside::{Depot, Inputs, Outputs, PutFault};
+use ss_report::{Fault as Report, fault_line, fixed_line, status_of};
+use ss_words::{WordsFault, command_of};
 use std::alloc::Global;
 
 /// Does what the words after the program's name say, and ends with a status:
@@ -15,7 +19,7 @@ use std::alloc::Global;
 /// |---|---|
 /// | 0 | nothing: the work is done, and all that belongs to it is written |
 /// | 2 | the words are no command |
-/// | 3 | the job file says no job |
+/// | 3 | the job file says no job, or one that can't be run yet |
 /// | 4 | a source's file is no file of events |
 /// | 5 | a file could not be read |
 /// | 7 | an output failed |
@@ -28,7 +32,7 @@ pub fn perform<I: Inputs, O: Outputs, D: Depot>(
     words: &[String],
     outside: Outside<I, O, D>,
 ) -> Done<I, O, D>
-    ensures ends { Ends (map string_bytes words.now)
+    ensures ends { Ends (command_of (map string_bytes words.now))
         (seen (I.bytes outside.inputs) (O.bytes outside.outputs) (I.count outside.inputs) (O.count outside.outputs))
         (seen (I.bytes result.outside.inputs) (O.bytes result.outside.outputs)
         (I.count result.outside.inputs) (O.count result.outside.outputs))
@@ -58,56 +62,72 @@ fn conclude<I: Inputs, O: Outputs>(
     inputs: &mut I,
     outputs: &mut O,
 ) -> u8
-    ensures { Ends (map string_bytes words.now)
+    ensures { Ends (command_of (map string_bytes words.now))
         (seen (I.bytes inputs.old) (O.bytes outputs.old) (I.count inputs.old) (O.count outputs.old))
         (seen (I.bytes inputs.new) (O.bytes outputs.new) (I.count inputs.new) (O.count outputs.new))
         result }
 {
     // That bytes say one job or one fault is why each status comes exactly where the files call for it.
     one_reading();
-    match run(alloc, words, inputs, outputs) {
-        Ok(()) => 0,
-        Err(fault) => refuse(alloc, words, outputs, fault),
+    match command_of(alloc, words) {
+        Ok(command) => match work(alloc, &command, inputs, outputs) {
+            Ok(()) => 0,
+            Err(fault) => refuse(alloc, command.job, outputs, fault),
+        },
+        Err(WordsFault::Usage) => refuse(alloc, "", outputs, Fault::Usage),
+        Err(WordsFault::Memory) => refuse(alloc, "", outputs, Fault::Memory),
     }
 }
 
-/// Puts the fault's line to standard error, and gives its status.
+/// Puts the fault's line to standard error, where the words name this job file, and gives the fault's status.
 pub(crate) fn refuse<O: Outputs>(
     alloc: Global,
-    words: &[String],
+    job_file: &str,
     outputs: &mut O,
     fault: Fault,
 ) -> u8
+    requires { NamesFile fault }
     ensures status { result ≡ status_of fault }
     ensures line { TellsLine (O.bytes outputs.old) (O.bytes outputs.new) (O.count outputs.old) (O.count outputs.new)
-        (fault_text (map string_bytes words.now) fault) }
+        (line_of job_file.now fault) }
     ensures counts { O.count outputs.old ≤ O.count outputs.new }
 {
-    tell(alloc, words, outputs, &fault);
-    status_of(&fault)
+    let report = fault.report(job_file);
+    tell(alloc, outputs, &report);
+    status_of(&report)
 }
 
 /// Puts the fault's line to standard error, where it takes no memory or memory is left for it.
-fn tell<O: Outputs>(alloc: Global, words: &[String], outputs: &mut O, fault: &Fault)
+fn tell<O: Outputs>(alloc: Global, outputs: &mut O, fault: &Report<'_>)
     ensures line { TellsLine (O.bytes outputs.old) (O.bytes outputs.new) (O.count outputs.old) (O.count outputs.new)
-        (fault_text (map string_bytes words.now) fault.now) }
+        (fault_text fault.now) }
     ensures counts { O.count outputs.old ≤ O.count outputs.new }
 {
-    match fixed_text(fault) {
-        Some(text) => put_line(outputs, text),
-        None => match named_text(alloc, words, fault) {
-            Some(text) => put_line(outputs, text.as_str()),
-            None => (),
-        },
+    match fixed_line(fault) {
+        Some(text) => put_line(outputs, text.as_bytes()),
+        None => tell_named(alloc, outputs, fault),
+    }
+}
+
+/// Puts the line of a fault that names a file or a cause to standard error, where memory is left for it.
+fn tell_named<O: Outputs>(alloc: Global, outputs: &mut O, fault: &Report<'_>)
+    ensures line { TellsLine (O.bytes outputs.old) (O.bytes outputs.new) (O.count outputs.old) (O.count outputs.new)
+        (fault_text fault.now) }
+    ensures counts { O.count outputs.old ≤ O.count outputs.new }
+{
+    let mut line = Vec::new(alloc);
+    match fault_line(fault, &mut line) {
+        Ok(()) => put_line(outputs, line.as_slice()),
+        Err(_) => (),
     }
 }
 
 /// Puts a line to standard error, as far as the device takes it.
-fn put_line<O: Outputs>(outputs: &mut O, text: &str)
-    ensures line { TellsLine (O.bytes outputs.old) (O.bytes outputs.new) (O.count outputs.old) (O.count outputs.new) text.now }
+fn put_line<O: Outputs>(outputs: &mut O, line: &[u8])
+    ensures line { TellsLine (O.bytes outputs.old) (O.bytes outputs.new) (O.count outputs.old) (O.count outputs.new) line.now }
     ensures counts { O.count outputs.old ≤ O.count outputs.new }
 {
-    match outputs.put("!", text.as_bytes()) {
+    match outputs.put("!", line) {
         Ok(()) => (),
         Err(PutFault::Failed) => (),
         Err(PutFault::Memory) => (),

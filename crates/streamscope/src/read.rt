@@ -1,6 +1,6 @@
 ghost use Rattle.std.specs.Prelude.{◌≤◌, IfOk, IfErr};
 ghost use Rattle.ss_outside.specs.Told.{Same};
-ghost use Rattle.streamscope.specs.Run.{FileSaysJob, FileHasEvents};
+ghost use Rattle.streamscope.specs.Work.{FileSaysJob, FileHasEvents};
 ghost use Rattle.streamscope.specs.Read.{HasEventFault, HasJobFault, IsReadCause};
 
 use ss_elem::Element;

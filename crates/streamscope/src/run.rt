@@ -1,49 +1,69 @@
-ghost use Rattle.std.specs.Prelude.{◌≤◌, map, OnOk, IfErr, string_bytes};
+ghost use Rattle.std.specs.Prelude.{◌≡◌, ◌≤◌, OnOk, IfErr};
 ghost use Rattle.ss_outside.specs.Told.{Same};
-ghost use Rattle.streamscope.specs.Ends.{Stopped, seen};
-ghost use Rattle.streamscope.specs.Run.{Ran};
+ghost use Rattle.streamscope.specs.Ends.{RunDone, RunStopped, seen};
+ghost use Rattle.streamscope.specs.Read.{fault_of_source};
+ghost use Rattle.streamscope.specs.Work.{unbuilt};
 
 use crate::fault::Fault;
-use crate::read::{ReadFault, read_event_file, read_job_file};
-use crate::words::job_file_of;
-use crate::write::write_output;
+use crate::read::ReadFault;
+use crate::sources::{SourceFault, read_streams};
+use crate::write::write_run;
+use ss_job::{Job, Op};
 use ss_outside::{Inputs, Outputs, PutFault};
 use std::alloc::Global;
 
-/// Does what the words say.
+/// Runs a job: reads its sources, in order, and then writes each sink's file, in order, and the summary.
 pub(crate) fn run<I: Inputs, O: Outputs>(
     alloc: Global,
-    words: &[String],
     inputs: &mut I,
     outputs: &mut O,
+    job: Job,
 ) -> Result<(), Fault>
-    ensures whole { OnOk result
-        (Ran (map string_bytes words.now) (I.bytes inputs.old) (O.bytes outputs.old) (O.bytes outputs.new)) }
-    ensures fault { IfErr result (Stopped (map string_bytes words.now)
+    ensures done { OnOk result (RunDone job
         (seen (I.bytes inputs.old) (O.bytes outputs.old) (I.count inputs.old) (O.count outputs.old))
         (seen (I.bytes inputs.new) (O.bytes outputs.new) (I.count inputs.new) (O.count outputs.new))) }
-    ensures files { Same (I.bytes inputs.old) (I.bytes inputs.new) }
-    ensures input_faults { I.count inputs.old ≤ I.count inputs.new }
-    ensures output_faults { O.count outputs.old ≤ O.count outputs.new }
+    ensures fault { IfErr result (RunStopped job
+        (seen (I.bytes inputs.old) (O.bytes outputs.old) (I.count inputs.old) (O.count outputs.old))
+        (seen (I.bytes inputs.new) (O.bytes outputs.new) (I.count inputs.new) (O.count outputs.new))) }
+    ensures told { Same (I.bytes inputs.old) (I.bytes inputs.new) }
+    ensures input_counts { I.count inputs.old ≤ I.count inputs.new }
+    ensures output_counts { O.count outputs.old ≤ O.count outputs.new }
 {
-    let Some(file) = job_file_of(words) else {
-        return Err(Fault::Usage);
+    if let Some(v) = first_operator(&job) {
+        return Err(Fault::NotBuilt { v });
+    }
+    let streams = match read_streams(alloc, inputs, &job) {
+        Ok(streams) => streams,
+        Err(fault) => return Err(source_fault(job, fault)),
     };
-    let job = match read_job_file(alloc, inputs, file) {
-        Ok(job) => job,
-        Err(ReadFault::At(fault)) => return Err(Fault::Job(fault)),
-        Err(ReadFault::Unread) => return Err(Fault::JobUnread),
-        Err(ReadFault::Memory) => return Err(Fault::Memory),
-    };
-    let list = match read_event_file(alloc, inputs, job.file(0), job.late(0)) {
-        Ok(list) => list,
-        Err(ReadFault::At(fault)) => return Err(Fault::Events { job, fault }),
-        Err(ReadFault::Unread) => return Err(Fault::SourceUnread { job }),
-        Err(ReadFault::Memory) => return Err(Fault::Memory),
-    };
-    match write_output(alloc, outputs, &job, list.as_slice()) {
+    match write_run(alloc, outputs, &job, streams.as_slice()) {
         Ok(()) => Ok(()),
         Err(PutFault::Failed) => Err(Fault::Output),
         Err(PutFault::Memory) => Err(Fault::Memory),
     }
+}
+
+/// A source's fault as what ended the command.
+fn source_fault(job: Job, fault: SourceFault) -> Fault
+    ensures { result ≡ fault_of_source job fault.v fault.why }
+{
+    let SourceFault { v, why } = fault;
+    match why {
+        ReadFault::At(fault) => Fault::Events { job, v, fault },
+        ReadFault::Unread => Fault::SourceUnread { job, v },
+        ReadFault::Memory => Fault::Memory,
+    }
+}
+
+/// The first vertex that can't be run yet: an operator.
+fn first_operator(job: &Job) -> Option<u32>
+    ensures { result ≡ unbuilt job.now }
+{
+    for v in 0..job.graph().count() {
+        match job.op(v) {
+            Op::Source | Op::Sink => (),
+            Op::Select | Op::Union | Op::Window | Op::Join => return Some(v),
+        }
+    }
+    None
 }

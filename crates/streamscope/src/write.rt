@@ -1,23 +1,95 @@
-ghost use Rattle.std.specs.Prelude.{◌≡◌, ℕ, ◌≤◌, OnOk, IfOk, IsErrOf, codes, string_bytes};
-ghost use Rattle.ss_elem.specs.Line.{text_of};
-ghost use Rattle.ss_outside.specs.Faults.{Rose};
-ghost use Rattle.ss_outside.specs.Told.{Same, Appends, AppendsPart};
-ghost use Rattle.streamscope.specs.Puts.{Puts, PutsPart};
-ghost use Rattle.streamscope.specs.Run.{AppendsLines, PutsLines, output_of, summary_of};
+ghost use Rattle.std.specs.Prelude.{◌≡◌, ◌≤◌, ◌<◌, length, map};
+ghost use Rattle.streamscope.specs.Output.{puts_below, run_puts, sink_puts, taken_by};
+ghost use Rattle.streamscope.specs.Puts.{Wrote, lines_to};
 
+use crate::summary::write_summary;
 use ss_elem::{Element, LineBuf, line};
-use ss_job::Job;
+use ss_job::{Job, Op};
 use ss_outside::{Outputs, PutFault};
-use std::alloc::{AllocError, Global};
+use std::alloc::Global;
 
-/// Puts the list's text to a file, each element's line by a put of its own.
+/// Puts the output of a run: the lines of each sink to its file, in order, and then the summary, unless a sink
+/// writes to standard output. `streams` has the stream of each vertex.
+pub(crate) fn write_run<O: Outputs>(
+    alloc: Global,
+    outputs: &mut O,
+    job: &Job,
+    streams: &[Vec<Element>],
+) -> Result<(), PutFault>
+    ensures wrote { Wrote (O.bytes outputs.old) (O.bytes outputs.new) (O.count outputs.old) (O.count outputs.new)
+        (run_puts job.now (map (λ list. list.items) streams.now)) result }
+    ensures counts { O.count outputs.old ≤ O.count outputs.new }
+{
+    match write_sinks(outputs, job, streams) {
+        Ok(()) => match write_summary(alloc, outputs, job, streams) {
+            Ok(()) => Ok(()),
+            Err(PutFault::Failed) => Err(PutFault::Failed),
+            Err(PutFault::Memory) => Err(PutFault::Memory),
+        },
+        Err(PutFault::Failed) => Err(PutFault::Failed),
+        Err(PutFault::Memory) => Err(PutFault::Memory),
+    }
+}
+
+/// Puts the lines of each sink to its file, in order.
+fn write_sinks<O: Outputs>(
+    outputs: &mut O,
+    job: &Job,
+    streams: &[Vec<Element>],
+) -> Result<(), PutFault>
+    ensures wrote { Wrote (O.bytes outputs.old) (O.bytes outputs.new) (O.count outputs.old) (O.count outputs.new)
+        (puts_below job.now (map (λ list. list.items) streams.now) (length job.now.vertices)) result }
+    ensures counts { O.count outputs.old ≤ O.count outputs.new }
+{
+    for v in 0..job.graph().count() {
+        match write_sink(outputs, job, streams, v) {
+            Ok(()) => (),
+            Err(PutFault::Failed) => return Err(PutFault::Failed),
+            Err(PutFault::Memory) => return Err(PutFault::Memory),
+        }
+    }
+    Ok(())
+}
+
+/// Puts the lines of a vertex, if it is a sink, to its file.
+fn write_sink<O: Outputs>(
+    outputs: &mut O,
+    job: &Job,
+    streams: &[Vec<Element>],
+    v: u32,
+) -> Result<(), PutFault>
+    requires { v < length job.now.vertices }
+    ensures wrote { Wrote (O.bytes outputs.old) (O.bytes outputs.new) (O.count outputs.old) (O.count outputs.new)
+        (sink_puts job.now (map (λ list. list.items) streams.now) v) result }
+    ensures counts { O.count outputs.old ≤ O.count outputs.new }
+{
+    if job.op(v) != Op::Sink {
+        return Ok(());
+    }
+    let list = taken_by(job, streams, v);
+    match write_lines(outputs, job.file(v), list) {
+        Ok(()) => Ok(()),
+        Err(PutFault::Failed) => Err(PutFault::Failed),
+        Err(PutFault::Memory) => Err(PutFault::Memory),
+    }
+}
+
+/// The stream that a vertex reads at its first input.
+pub(crate) fn taken_by<'a>(job: &Job, streams: &'a [Vec<Element>], v: u32) -> &'a [Element]
+    requires { v < length job.now.vertices }
+    ensures { result.now ≡ taken_by job.now (map (λ list. list.items) streams.entry.now) v }
+{
+    let node = job.graph().node(v);
+    match streams.get(node.inputs[0] as usize) {
+        Some(list) => list.as_slice(),
+        None => &[],
+    }
+}
+
+/// Puts a list's lines to a file, each element's by a put of its own.
 fn write_lines<O: Outputs>(outputs: &mut O, file: &str, list: &[Element]) -> Result<(), PutFault>
-    ensures whole { OnOk result (Appends (O.bytes outputs.old) (O.bytes outputs.new) file.now (text_of list.now)) }
-    ensures part { IsErrOf result PutFault.Failed
-        → AppendsPart (O.bytes outputs.old) (O.bytes outputs.new) file.now (text_of list.now) }
-    ensures lines { IsErrOf result PutFault.Memory
-        → AppendsLines (O.bytes outputs.old) (O.bytes outputs.new) file.now list.now }
-    ensures failed { IsErrOf result PutFault.Failed → Rose (O.count outputs.old) (O.count outputs.new) }
+    ensures wrote { Wrote (O.bytes outputs.old) (O.bytes outputs.new) (O.count outputs.old) (O.count outputs.new)
+        (lines_to file.now list.now) result }
     ensures counts { O.count outputs.old ≤ O.count outputs.new }
 {
     let mut buffer = LineBuf::new();
@@ -30,70 +102,4 @@ fn write_lines<O: Outputs>(outputs: &mut O, file: &str, list: &[Element]) -> Res
         }
     }
     Ok(())
-}
-
-/// The line of a sink in the summary, and the summary's last line.
-fn summary_of(alloc: Global, name: &str, taken: usize) -> Result<String, AllocError>
-    ensures { IfOk result (λ text. string_bytes text ≡ summary_of name.now taken) }
-{
-    format!(in alloc; "sink {name} {taken}\ndone\n")
-}
-
-/// Puts the summary of a job to standard output.
-fn write_summary<O: Outputs>(
-    alloc: Global,
-    outputs: &mut O,
-    name: &str,
-    taken: usize,
-) -> Result<(), PutFault>
-    ensures whole { OnOk result
-        (Appends (O.bytes outputs.old) (O.bytes outputs.new) (codes "-") (summary_of name.now taken)) }
-    ensures part { IsErrOf result PutFault.Failed
-        → AppendsPart (O.bytes outputs.old) (O.bytes outputs.new) (codes "-") (summary_of name.now taken) }
-    ensures none { IsErrOf result PutFault.Memory → Same (O.bytes outputs.old) (O.bytes outputs.new) }
-    ensures failed { IsErrOf result PutFault.Failed → Rose (O.count outputs.old) (O.count outputs.new) }
-    ensures counts { O.count outputs.old ≤ O.count outputs.new }
-{
-    let Ok(text) = summary_of(alloc, name, taken) else {
-        return Err(PutFault::Memory);
-    };
-    match outputs.put("-", text.as_str().as_bytes()) {
-        Ok(()) => Ok(()),
-        Err(PutFault::Failed) => Err(PutFault::Failed),
-        Err(PutFault::Memory) => Err(PutFault::Memory),
-    }
-}
-
-/// Puts the output of a run: the sink's text to its file, and then the summary, unless the sink writes to
-/// standard output.
-pub(crate) fn write_output<O: Outputs>(
-    alloc: Global,
-    outputs: &mut O,
-    job: &Job,
-    list: &[Element],
-) -> Result<(), PutFault>
-    ensures whole { OnOk result (Puts (O.bytes outputs.old) (O.bytes outputs.new) (output_of job.now list.now)) }
-    ensures part { IsErrOf result PutFault.Failed
-        → PutsPart (O.bytes outputs.old) (O.bytes outputs.new) (output_of job.now list.now) }
-    ensures lines { IsErrOf result PutFault.Memory
-        → PutsLines (O.bytes outputs.old) (O.bytes outputs.new) job.now list.now }
-    ensures failed { IsErrOf result PutFault.Failed → Rose (O.count outputs.old) (O.count outputs.new) }
-    ensures counts { O.count outputs.old ≤ O.count outputs.new }
-{
-    let file = job.file(1);
-    match write_lines(outputs, file, list) {
-        Ok(()) => {
-            if file == "-" {
-                Ok(())
-            } else {
-                match write_summary(alloc, outputs, job.name(1), list.len()) {
-                    Ok(()) => Ok(()),
-                    Err(PutFault::Failed) => Err(PutFault::Failed),
-                    Err(PutFault::Memory) => Err(PutFault::Memory),
-                }
-            }
-        }
-        Err(PutFault::Failed) => Err(PutFault::Failed),
-        Err(PutFault::Memory) => Err(PutFault::Memory),
-    }
 }

@@ -1,0 +1,36 @@
+-- The line of each fault, with its newline.
+use Rattle.std.specs.Prelude.{ℕ, Bool, true, false, List, ◌++◌, Option, Some, None, codes}
+use Rattle.std.specs.Fmt.{decimal}
+use Rattle.ss_job.specs.declared.fault.JobFault.{JobFault}
+use Rattle.ss_report.specs.WhyText.{job_why, event_why}
+use Rattle.ss_report.specs.declared.fault.Fault.{Fault}
+use Rattle.ss_report.specs.declared.fault.Fault.TheVariants.{Usage, Job, NotBuilt, Events, Inputs, Output, Memory}
+
+-- a fault of a job, at a vertex or not
+abbrev pub job_text : Option ℕ → List ℕ → List ℕ
+job_text None why = codes "streamscope: job: " ++ why ++ codes "\n"
+job_text (Some vertex) why = codes "streamscope: job: vertex " ++ decimal vertex ++ codes ": " ++ why ++ codes "\n"
+
+-- a fault of a row of a file
+abbrev pub events_text : List ℕ → ℕ → List ℕ → List ℕ
+events_text file row why = codes "streamscope: events " ++ file ++ codes ": row " ++ decimal row ++ codes ": " ++ why ++ codes "\n"
+
+-- a file that could not be read
+abbrev pub unread_text : List ℕ → List ℕ
+unread_text file = codes "streamscope: cannot read " ++ file ++ codes "\n"
+
+abbrev pub fault_text : Fault → List ℕ
+fault_text Usage = codes "usage: streamscope check|plain|play|run|gen SUBJECT [--workers N] [--failures F] [--schedule F] [--trace F]\n"
+fault_text (Job fault) = job_text fault.vertex (job_why fault.why)
+fault_text (NotBuilt vertex) = job_text (Some vertex) (codes "not built yet")
+fault_text (Events file fault) = events_text file.now fault.row (event_why fault.why)
+fault_text (Inputs file) = unread_text file.now
+fault_text Output = codes "streamscope: output fault\n"
+fault_text Memory = codes "streamscope: out of memory\n"
+
+-- whether the line names nothing, so that it is always the same
+abbrev pub is_fixed : Fault → Bool
+is_fixed Usage = true
+is_fixed Output = true
+is_fixed Memory = true
+is_fixed _ = false

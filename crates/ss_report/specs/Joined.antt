@@ -1,0 +1,11 @@
+-- Texts one behind another.
+use Rattle.std.specs.Prelude.{◌≡◌, ℕ, List, ◌++◌}
+use Rattle.std.specs.Borrow.{Bor}
+use Rattle.std.specs.List.{flat_map}
+
+abbrev pub joined : List (Bor (List ℕ)) → List ℕ
+joined texts = flat_map (λ text. text.now) texts
+
+-- one text has another in front
+abbrev pub Extends : List ℕ → List ℕ → Type 0
+Extends front whole = (more : List ℕ) × (whole ≡ front ++ more)

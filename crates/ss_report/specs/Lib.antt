@@ -1,0 +1,5 @@
+pub mod FaultText
+pub mod Joined
+pub mod StateText
+pub mod Status
+pub mod WhyText

@@ -1,0 +1,23 @@
+-- What the reader of the words answers.
+use Rattle.std.specs.Prelude.{◌≡◌, Option, Some, None, Result, Ok, Err}
+use Rattle.clap.specs.declared.error.kind.ErrorKind.{ErrorKind}
+use Rattle.clap.specs.declared.error.kind.ErrorKind.TheVariants.{OutOfMemory}
+use Rattle.ss_words.specs.Words.{CommandText}
+use Rattle.ss_words.specs.declared.words.Command.{Command}
+use Rattle.ss_words.specs.declared.words.WordsFault.{WordsFault}
+use Rattle.ss_words.specs.declared.words.WordsFault.TheVariants.{Usage, Memory}
+
+-- what a command says
+abbrev pub command_text : Command → CommandText
+command_text command = record { action = command.action; job = command.job.now }
+
+-- the fault that is told for a kind of `clap`'s errors
+abbrev pub fault_of_kind : ErrorKind → WordsFault
+fault_of_kind OutOfMemory = Memory
+fault_of_kind _ = Usage
+
+-- an answer, seen by view, is what the words say: this, or nothing. Want of memory may come at any words
+abbrev pub Gives : {X Y : Type 0} → (X → Y) → Result X WordsFault → Option Y → Type 0
+Gives view (Ok x) said = said ≡ Some (view x)
+Gives view (Err Usage) said = said ≡ None
+Gives view (Err Memory) said = Unit {0}

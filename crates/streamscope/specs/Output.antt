@@ -1,0 +1,81 @@
+-- What a command puts where its work is done.
+use Rattle.std.specs.Prelude.{◌≡◌, ◌⊎◌, ℕ, zero, suc, Bool, true, false, not, ◌&&◌, List, [], ◌∷◌, ◌++◌, length, Option, Some, None, option_map, option_and_then, slice_get, slice_index, bytes_eq, codes, if◌then◌else◌, get_or}
+use Rattle.std.specs.List.{list_any}
+use Rattle.std.specs.Option.{option_map_or}
+use Rattle.ss_elem.specs.declared.element.Element.{Element}
+use Rattle.ss_job.specs.JobText.{VertexText, source, inner, sink, JobText, op_of}
+use Rattle.ss_report.specs.StateText.{state_text}
+use Rattle.ss_report.specs.declared.state_row.StateRow.{StateRow}
+use Rattle.ss_report.specs.declared.state_row.StateRow.TheVariants.{Vertex, Checked, Summary, Done}
+use Rattle.ss_water.specs.declared.node.Node.{Node}
+use Rattle.ss_job.specs.declared.op.Op.{Op}
+use Rattle.streamscope.specs.Puts.{Put, put_of, lines_to}
+
+-- ---- check: the lines of the job
+
+abbrev pub vertex_line : JobText → ℕ → Node → Op → List ℕ
+vertex_line job v node op = state_text job.roles (Vertex v op node.inputs node.width)
+
+-- the line of vertex v, where there is one
+abbrev pub line_of_vertex : JobText → ℕ → List ℕ
+line_of_vertex job v = option_map_or (λ node. option_map_or (vertex_line job v node) (op_of job v) []) (slice_get job.graph v) []
+
+-- the lines of the first vertices
+abbrev pub vertex_lines : JobText → ℕ → List ℕ
+vertex_lines job zero = []
+vertex_lines job (suc v) = vertex_lines job v ++ line_of_vertex job v
+
+abbrev pub check_text : JobText → List ℕ
+check_text job = vertex_lines job (length job.vertices) ++ state_text job.roles (Checked (length job.vertices))
+
+abbrev pub check_puts : JobText → List Put
+check_puts job = put_of (codes "-") (check_text job) ∷ []
+
+-- ---- run: the lines of each sink, and then the summary
+
+-- the file of vertex v, where it is a sink
+abbrev pub file_of_sink : VertexText → Option (List ℕ)
+file_of_sink (source file late) = None
+file_of_sink (inner spec policy) = None
+file_of_sink (sink file) = Some file
+
+abbrev pub sink_file : JobText → ℕ → Option (List ℕ)
+sink_file job v = option_and_then file_of_sink (slice_get job.vertices v)
+
+-- what vertex v reads at its first input, where the streams of all vertices are given
+abbrev pub taken_by : JobText → List (List Element) → ℕ → List Element
+taken_by job streams v = option_map_or (λ node. get_or streams (slice_index node.inputs 0) []) (slice_get job.graph v) []
+
+-- what is put for vertex v: the lines of a sink, each by a put of its own, to the sink's file
+abbrev pub sink_puts : JobText → List (List Element) → ℕ → List Put
+sink_puts job streams v = option_map_or (λ file. lines_to file (taken_by job streams v)) (sink_file job v) []
+
+-- what is put for the first vertices
+abbrev pub puts_below : JobText → List (List Element) → ℕ → List Put
+puts_below job streams zero = []
+puts_below job streams (suc v) = puts_below job streams v ++ sink_puts job streams v
+
+-- a sink's line of the summary
+abbrev pub summary_line : JobText → List (List Element) → ℕ → List ℕ
+summary_line job streams v = option_map_or (λ _. state_text job.roles (Summary v (length (taken_by job streams v)))) (sink_file job v) []
+
+abbrev pub summary_lines : JobText → List (List Element) → ℕ → List ℕ
+summary_lines job streams zero = []
+summary_lines job streams (suc v) = summary_lines job streams v ++ summary_line job streams v
+
+abbrev pub summary_text : JobText → List (List Element) → List ℕ
+summary_text job streams = summary_lines job streams (length job.vertices) ++ state_text job.roles Done
+
+-- a sink writes to standard output
+abbrev pub writes_to_output : VertexText → Bool
+writes_to_output vertex = option_map_or (λ file. bytes_eq file (codes "-")) (file_of_sink vertex) false
+
+abbrev pub shows_sink : JobText → Bool
+shows_sink job = list_any writes_to_output job.vertices
+
+-- the summary, where no sink writes to standard output
+abbrev pub summary_puts : JobText → List (List Element) → List Put
+summary_puts job streams = if shows_sink job then [] else put_of (codes "-") (summary_text job streams) ∷ []
+
+abbrev pub run_puts : JobText → List (List Element) → List Put
+run_puts job streams = puts_below job streams (length job.vertices) ++ summary_puts job streams

@@ -1,0 +1,82 @@
+ghost use Rattle.std.specs.Prelude.{◌≡◌, ◌≤◌, ◌<◌, ◌++◌, IfOk, OnOk, length, map};
+ghost use Rattle.streamscope.specs.Output.{shows_sink, summary_line, summary_puts, summary_text};
+ghost use Rattle.streamscope.specs.Puts.{Wrote};
+
+use crate::write::taken_by;
+use ss_elem::Element;
+use ss_job::{Job, Op};
+use ss_outside::{Outputs, PutFault};
+use ss_report::{StateRow, state_line};
+use std::alloc::{AllocError, Global};
+
+/// Puts the summary of a run to standard output, unless a sink writes there.
+pub(crate) fn write_summary<O: Outputs>(
+    alloc: Global,
+    outputs: &mut O,
+    job: &Job,
+    streams: &[Vec<Element>],
+) -> Result<(), PutFault>
+    ensures wrote { Wrote (O.bytes outputs.old) (O.bytes outputs.new) (O.count outputs.old) (O.count outputs.new)
+        (summary_puts job.now (map (λ list. list.items) streams.now)) result }
+    ensures counts { O.count outputs.old ≤ O.count outputs.new }
+{
+    if shows_sink(job) {
+        return Ok(());
+    }
+    let Ok(text) = summary_of(alloc, job, streams) else {
+        return Err(PutFault::Memory);
+    };
+    match outputs.put("-", text.as_slice()) {
+        Ok(()) => Ok(()),
+        Err(PutFault::Failed) => Err(PutFault::Failed),
+        Err(PutFault::Memory) => Err(PutFault::Memory),
+    }
+}
+
+/// Whether a sink writes to standard output.
+fn shows_sink(job: &Job) -> bool
+    ensures { result ≡ shows_sink job.now }
+{
+    for v in 0..job.graph().count() {
+        if job.op(v) == Op::Sink && job.file(v) == "-" {
+            return true;
+        }
+    }
+    false
+}
+
+/// The summary: a line for each sink, in order, and the last line.
+fn summary_of(
+    alloc: Global,
+    job: &Job,
+    streams: &[Vec<Element>],
+) -> Result<Vec<u8>, AllocError>
+    ensures { IfOk result (λ text. text.items ≡ summary_text job.now (map (λ list. list.items) streams.now)) }
+{
+    let mut text = Vec::new(alloc);
+    for v in 0..job.graph().count() {
+        put_summary(&mut text, job, streams, v)?;
+    }
+    state_line(&StateRow::Done, job.roles(), &mut text)?;
+    Ok(text)
+}
+
+/// Appends the line of a vertex, if it is a sink.
+fn put_summary(
+    text: &mut Vec<u8>,
+    job: &Job,
+    streams: &[Vec<Element>],
+    v: u32,
+) -> Result<(), AllocError>
+    requires { v < length job.now.vertices }
+    ensures { OnOk result (text.new.items ≡ text.old.items ++ summary_line job.now (map (λ list. list.items) streams.now) v) }
+{
+    if job.op(v) != Op::Sink {
+        return Ok(());
+    }
+    let taken = taken_by(job, streams, v).len() as u64;
+    match state_line(&StateRow::Summary { k: v, taken }, job.roles(), text) {
+        Ok(()) => Ok(()),
+        Err(error) => Err(error),
+    }
+}
