@@ -53,7 +53,8 @@ impl Job {
 
     /// The vertices' names, kinds and replicas, in the order of their numbers.
     pub fn roles(&self) -> &[Role]
-        ensures { result.now ≡ self.now.roles }
+        ensures roles { result.now ≡ self.now.roles }
+        ensures job { IsJob self.now }
     {
         self.roles.as_slice()
     }

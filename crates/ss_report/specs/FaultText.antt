@@ -1,17 +1,20 @@
 -- The line of each fault, with its newline.
 use Rattle.std.specs.Prelude.{ℕ, Bool, true, false, List, ◌++◌, Option, Some, None, codes}
 use Rattle.std.specs.Fmt.{decimal}
-use Rattle.ss_job.specs.declared.fault.JobFault.{JobFault}
 use Rattle.ss_report.specs.WhyText.{job_why, event_why}
 use Rattle.ss_report.specs.declared.fault.Fault.{Fault}
 use Rattle.ss_report.specs.declared.fault.Fault.TheVariants.{Usage, Job, NotBuilt, Events, Inputs, Output, Memory}
 
--- a fault of a job, at a vertex or not
-abbrev pub job_text : Option ℕ → List ℕ → List ℕ
-job_text None why = codes "streamscope: job: " ++ why ++ codes "\n"
-job_text (Some vertex) why = codes "streamscope: job: vertex " ++ decimal vertex ++ codes ": " ++ why ++ codes "\n"
+-- what stands before the cause of a job's fault, which is at a vertex or not
+abbrev pub job_head : Option ℕ → List ℕ
+job_head None = codes "streamscope: job: "
+job_head (Some vertex) = codes "streamscope: job: vertex " ++ decimal vertex ++ codes ": "
 
--- a fault of a row of a file
+-- a fault of a job
+abbrev pub job_text : Option ℕ → List ℕ → List ℕ
+job_text vertex why = job_head vertex ++ why ++ codes "\n"
+
+-- a row of a file that is refused
 abbrev pub events_text : List ℕ → ℕ → List ℕ → List ℕ
 events_text file row why = codes "streamscope: events " ++ file ++ codes ": row " ++ decimal row ++ codes ": " ++ why ++ codes "\n"
 
@@ -19,10 +22,11 @@ events_text file row why = codes "streamscope: events " ++ file ++ codes ": row 
 abbrev pub unread_text : List ℕ → List ℕ
 unread_text file = codes "streamscope: cannot read " ++ file ++ codes "\n"
 
+-- what a fault is told by
 abbrev pub fault_text : Fault → List ℕ
 fault_text Usage = codes "usage: streamscope check|plain|play|run|gen SUBJECT [--workers N] [--failures F] [--schedule F] [--trace F]\n"
 fault_text (Job fault) = job_text fault.vertex (job_why fault.why)
-fault_text (NotBuilt vertex) = job_text (Some vertex) (codes "not built yet")
+fault_text (NotBuilt vertex) = job_head (Some vertex) ++ codes "not built yet\n"
 fault_text (Events file fault) = events_text file.now fault.row (event_why fault.why)
 fault_text (Inputs file) = unread_text file.now
 fault_text Output = codes "streamscope: output fault\n"

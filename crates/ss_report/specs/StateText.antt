@@ -26,23 +26,25 @@ name_of roles v = option_map_or (λ role. role.name) (slice_get roles v) []
 abbrev pub names_text : List Role → List ℕ → List ℕ
 names_text roles vs = flat_map (λ v. codes " " ++ name_of roles v) vs
 
+-- a vertex's number, its name, what it does, and what it reads
 abbrev pub vertex_text : List Role → ℕ → Op → List ℕ → List ℕ
 vertex_text roles v op inputs = decimal v ++ codes " " ++ name_of roles v ++ codes " " ++ op_text op ++ names_text roles inputs ++ codes "\n"
 
+-- a line of a report on a job with these roles
 abbrev pub state_text : List Role → StateRow → List ℕ
 state_text roles (Vertex v op inputs width) = vertex_text roles v op (take width inputs)
 state_text roles (Checked count) = codes "ok " ++ decimal count ++ codes "\n"
 state_text roles (Summary k taken) = codes "sink " ++ name_of roles k ++ codes " " ++ decimal taken ++ codes "\n"
 state_text roles Done = codes "done\n"
 
--- the vertices of a row are among those of the roles
-pub record NamesInputs (roles : List Role) (v : ℕ) (inputs : List ℕ) (width : ℕ) : Type 0 where
+-- the vertices of a row have roles, and it has no more than 8 inputs
+pub record HasInputs (roles : List Role) (v : ℕ) (inputs : List ℕ) (width : ℕ) : Type 0 where
   pub named : v < length roles
   pub few : width ≤ 8
   pub inputs_named : All (λ input. input < length roles) (take width inputs)
 
-abbrev pub IsOf : List Role → StateRow → Type 0
-IsOf roles (Vertex v op inputs width) = NamesInputs roles v inputs width
-IsOf roles (Checked count) = Unit {0}
-IsOf roles (Summary k taken) = k < length roles
-IsOf roles Done = Unit {0}
+abbrev pub IsRowOf : List Role → StateRow → Type 0
+IsRowOf roles (Vertex v op inputs width) = HasInputs roles v inputs width
+IsRowOf roles (Checked count) = Unit {0}
+IsRowOf roles (Summary k taken) = k < length roles
+IsRowOf roles Done = Unit {0}

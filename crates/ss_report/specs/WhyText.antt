@@ -6,7 +6,6 @@ use Rattle.ss_events.specs.declared.fault.EventWhy.TheVariants as event
 use Rattle.ss_job.specs.Format.{key_of}
 use Rattle.ss_job.specs.declared.fault.JobWhy.{JobWhy}
 use Rattle.ss_job.specs.declared.fault.JobWhy.TheVariants.{NotToml, MissingField, WrongKind, UnknownField, BadName, RepeatedName, RepeatedFile, BadOp, BadWord, LaterInput, SinkAsInput, WrongInputCount, BadRange, BadExpr, Unread, NoSink, TooManyVertices}
-use Rattle.ss_job.specs.declared.field_name.FieldName.{FieldName}
 
 -- a number that is out of its range
 abbrev pub range_text : List ℕ → ℤ → ℤ → ℤ → List ℕ

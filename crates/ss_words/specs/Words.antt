@@ -23,8 +23,8 @@ pub record CommandText : Type 0 where
   pub job : List ℕ
 
 -- a word that has to be given
-abbrev pub required : List ℕ → Rule
-required name = record (new_rule name) { required = true }
+abbrev pub required_word : List ℕ → Rule
+required_word name = record (new_rule name) { required = true }
 
 -- no word stands for the program's name
 abbrev pub without_name : App → App
@@ -33,7 +33,7 @@ without_name = on_top (λ top. record top { no_binary_name = true })
 -- the command as `clap` knows it: an action and then a subject
 unfoldable pub command_line : App
 command_line =
-    with_rule (with_rule (without_name (new_app (codes "streamscope"))) (required (codes "ACTION"))) (required (codes "SUBJECT"))
+    with_rule (with_rule (without_name (new_app (codes "streamscope"))) (required_word (codes "ACTION"))) (required_word (codes "SUBJECT"))
 
 -- what `clap` finds, where it refuses by no kind of error
 abbrev pub unless_refused : Kinds → List Row → Option (List Row)

@@ -1,5 +1,5 @@
-ghost use Rattle.std.specs.Prelude.{◌≡◌, IfOk, map, option_map, string_bytes};
-ghost use Rattle.clap.specs.Words.{app_of, first_of, found_of, kind_of, rows_of};
+ghost use Rattle.std.specs.Prelude.{◌≡◌, false, IfOk, map, option_map, string_bytes};
+ghost use Rattle.clap.specs.Words.{app_of, first_of, found_of, kind_of, rows_of, rule_of};
 ghost use Rattle.ss_words.specs.Words as spec;
 ghost use Rattle.ss_words.specs.Answers.{Gives, command_text, fault_of_kind};
 
@@ -77,12 +77,20 @@ fn matches_of(alloc: Global, words: &[String]) -> Result<ArgMatches<'_>, WordsFa
 fn command_line<'a>(alloc: Global) -> Result<clap::Command<'a>, AllocError>
     ensures { IfOk result (λ command_line. app_of command_line ≡ spec.command_line) }
 {
-    let action = Arg::new(alloc, ACTION).required(true);
-    let subject = Arg::new(alloc, SUBJECT).required(true);
+    let action = required_word(alloc, ACTION);
+    let subject = required_word(alloc, SUBJECT);
     clap::Command::new(alloc, PROGRAM)
         .no_binary_name(true)
         .arg(action)?
         .arg(subject)
+}
+
+/// A word that has to be given.
+fn required_word<'a>(alloc: Global, name: &'a str) -> Arg<'a>
+    ensures rule { rule_of result ≡ spec.required_word name.entry.now }
+    ensures local { result.global ≡ false }
+{
+    Arg::new(alloc, name).required(true)
 }
 
 /// Why words that `clap` didn't take give no command.

@@ -1,11 +1,11 @@
 -- What several puts come to.
-use Rattle.std.proofs.Common.{◌≡◌, ℕ, ◌+◌, ◌-◌, Bool, true, false, List, [], ◌∷◌, ◌++◌, length, take, Option, Some, None, if◌then◌else◌, refl, sym, ap, ◌∙◌, subst, append_assoc, arith}
-use Rattle.std.proofs.Math.Seq.{take-append_seam}
-use Rattle.std.proofs.lemmas.List.{append-nil, length-append, take_all}
+use Rattle.std.proofs.Common.{◌≡◌, ℕ, zero, suc, ◌+◌, ◌-◌, ◌≤◌, ◌⊎◌, inl, inr, Bool, true, false, List, [], ◌∷◌, ◌++◌, length, take, min, Option, Some, None, if◌then◌else◌, refl, sym, ap, ◌∙◌, subst, append_assoc, arith}
+use Rattle.std.proofs.Math.Seq.{take-append_seam, take-append-add}
+use Rattle.std.proofs.lemmas.List.{append-nil, length-append, take_all, take_min, take-append-le}
 use Rattle.std.specs.Option.{option_map}
 use Rattle.std.specs.Str.{bytes_eq}
 use Rattle.ss_outside.specs.Told.{Telling, Same, Appends, AppendsPart}
-use Rattle.streamscope.specs.Puts.{Put, put_of, bytes_to, first_bytes, Puts, PutsPart}
+use Rattle.streamscope.specs.Puts.{Put, put_of, bytes_to, first_bytes, Puts, PutsPart, PutsFirst}
 
 abbrev pub behind : List ℕ → Option (List ℕ) → Option (List ℕ)
 behind more held = option_map (λ bytes. bytes ++ more) held
@@ -18,13 +18,9 @@ pub behind-behind : (x y : List ℕ) (held : Option (List ℕ)) → behind y (be
 behind-behind x y None = refl
 behind-behind x y (Some bytes) = ap (λ (b : List ℕ). Some b) (append_assoc bytes x y)
 
-pub chosen-chosen : (b : Bool) (x y : List ℕ) (o p q : Option (List ℕ)) →
-    p ≡ (if b then behind x o else o) → q ≡ (if b then behind y p else p) → q ≡ (if b then behind (x ++ y) o else o)
-chosen-chosen true x y o p q h k = k ∙ ap (behind y) h ∙ behind-behind x y o
-chosen-chosen false x y o p q h k = k ∙ h
-
-pub Appends-trans : (a b c : Telling) (at x y : List ℕ) → Appends a b at x → Appends b c at y → Appends a c at (x ++ y)
-Appends-trans a b c at x y h k = λ name. chosen-chosen (bytes_eq name at) x y (a name) (b name) (c name) (h name) (k name)
+-- tellings that agree at each name are one
+pub same_telling : (a b : Telling) → Same a b → b ≡ a
+same_telling a b h = λ i name. h name i
 
 pub chosen-nil : (b : Bool) (o : Option (List ℕ)) → o ≡ (if b then behind [] o else o)
 chosen-nil true o = sym (behind-nil o)
@@ -33,19 +29,11 @@ chosen-nil false o = refl
 pub Appends-nil : (a b : Telling) (at : List ℕ) → Same a b → Appends a b at []
 Appends-nil a b at h = λ name. h name ∙ chosen-nil (bytes_eq name at) (a name)
 
-pub Appends-same : (a b c : Telling) (at x : List ℕ) → Appends a b at x → Same b c → Appends a c at x
-Appends-same a b c at x h k = λ name. k name ∙ h name
-
-pub AppendsPart-behind : (a b c : Telling) (at x y : List ℕ) → Appends a b at x → AppendsPart b c at y → AppendsPart a c at (x ++ y)
-AppendsPart-behind a b c at x y h (front, rest, split, k) =
-    (x ++ front, rest, ap (λ (m : List ℕ). x ++ m) split ∙ sym (append_assoc x front rest), Appends-trans a b c at x front h k)
-
-pub AppendsPart-longer : (a b : Telling) (at x y : List ℕ) → AppendsPart a b at x → AppendsPart a b at (x ++ y)
-AppendsPart-longer a b at x y (front, rest, split, k) =
-    (front, rest ++ y, ap (λ (m : List ℕ). m ++ y) split ∙ append_assoc front rest y, k)
-
 pub Puts-nil : (a : Telling) → Puts a a []
 Puts-nil a = λ name. sym (behind-nil (a name))
+
+pub Puts-none : (a b : Telling) → Same a b → Puts a b []
+Puts-none a b h = λ name. h name ∙ sym (behind-nil (a name))
 
 pub chosen-is : (b : Bool) (x : List ℕ) (o : Option (List ℕ)) → (if b then behind x o else o) ≡ behind ((if b then x else []) ++ []) o
 chosen-is true x o = ap (λ (m : List ℕ). behind m o) (sym (append-nil x))
@@ -65,6 +53,16 @@ Puts-append a b c p q h k = λ name.
     k name ∙ ap (behind (bytes_to name q)) (h name) ∙ behind-behind (bytes_to name p) (bytes_to name q) (a name)
     ∙ ap (λ (m : List ℕ). behind m (a name)) (sym (bytes_to-append name p q))
 
+pub Puts-same : (a b : Telling) (p q : List Put) → ((name : List ℕ) → bytes_to name p ≡ bytes_to name q) → Puts a b p → Puts a b q
+Puts-same a b p q same h = λ name. h name ∙ ap (λ (m : List ℕ). behind m (a name)) (same name)
+
+-- ---- the first bytes of puts
+
+-- how many bytes are put
+abbrev pub size_of : List Put → ℕ
+size_of [] = 0
+size_of (put ∷ puts) = length put.bytes + size_of puts
+
 abbrev pub no_text : List ℕ
 no_text = []
 
@@ -78,38 +76,81 @@ no_bytes name (put ∷ p) =
     let none : 0 - length put.bytes ≡ 0 = omega arith in
     rw (none, no_bytes name p) (append-nil (if bytes_eq name put.name then no_text else no_text) ∙ if_nil (bytes_eq name put.name))
 
-pub Puts-same : (a b : Telling) (p q : List Put) → ((name : List ℕ) → bytes_to name p ≡ bytes_to name q) → Puts a b p → Puts a b q
-Puts-same a b p q same h = λ name. h name ∙ ap (λ (m : List ℕ). behind m (a name)) (same name)
+pub first_bytes-append : (n : ℕ) (p q : List Put) → first_bytes n (p ++ q) ≡ first_bytes n p ++ first_bytes (n - size_of p) q
+first_bytes-append n [] q = let all : n - 0 ≡ n = omega arith in rw all refl
+first_bytes-append n (put ∷ p) q =
+    let left : (n - length put.bytes) - size_of p ≡ n - (length put.bytes + size_of p) = omega arith in
+    ap (λ (m : List Put). record put { bytes = take n put.bytes } ∷ m)
+    (first_bytes-append (n - length put.bytes) p q ∙ ap (λ (k : ℕ). first_bytes (n - length put.bytes) p ++ first_bytes k q) left)
 
--- a part of the first put's bytes is a part of all
-pub first_bytes-head : (name at front rest : List ℕ) (p : List Put) →
-    bytes_to name (put_of at front ∷ []) ≡ bytes_to name (first_bytes (length front) (put_of at (front ++ rest) ∷ p))
-first_bytes-head name at front rest p =
-    let none : length front - length (front ++ rest) ≡ 0 = simp length-append (omega arith) in
-    let all : take (length front) (front ++ rest) ≡ front = take-append_seam front rest in
-    rw (none, all, no_bytes name p) refl
+pub first_bytes-all : (n : ℕ) (p : List Put) → size_of p ≤ n → first_bytes n p ≡ p
+first_bytes-all n [] h = refl
+first_bytes-all n (put ∷ p) h =
+    let few : length put.bytes ≤ n = omega arith in
+    let whole : take n put.bytes ≡ put.bytes = take_all n put.bytes few in
+    ap (λ (bytes : List ℕ). put_of put.name bytes ∷ first_bytes (n - length put.bytes) p) whole
+    ∙ ap (λ (m : List Put). put ∷ m) (first_bytes-all (n - length put.bytes) p (omega arith))
 
-pub PutsPart-head : (a b : Telling) (at x : List ℕ) (p : List Put) → AppendsPart a b at x → PutsPart a b (put_of at x ∷ p)
-PutsPart-head a b at x p (front, rest, split, h) = (
+pub first_bytes-longer : (n : ℕ) (p q : List Put) (name : List ℕ) → n ≤ size_of p → bytes_to name (first_bytes n p) ≡ bytes_to name (first_bytes n (p ++ q))
+first_bytes-longer n p q name few =
+    let none : n - size_of p ≡ 0 = omega arith in
+    sym (ap (bytes_to name) (first_bytes-append n p q) ∙ bytes_to-append name (first_bytes n p) (first_bytes (n - size_of p) q)
+    ∙ ap (λ (k : ℕ). bytes_to name (first_bytes n p) ++ bytes_to name (first_bytes k q)) none
+    ∙ ap (λ (m : List ℕ). bytes_to name (first_bytes n p) ++ m) (no_bytes name q) ∙ append-nil (bytes_to name (first_bytes n p)))
+
+pub part-few : (a b : Telling) (n : ℕ) (p q : List Put) → n ≤ size_of p → Puts a b (first_bytes n p) → Puts a b (first_bytes n (p ++ q))
+part-few a b n p q few h = Puts-same a b (first_bytes n p) (first_bytes n (p ++ q)) (λ name. first_bytes-longer n p q name few) h
+
+pub part-all : (a b : Telling) (n : ℕ) (p : List Put) → size_of p ≤ n → Puts a b (first_bytes n p) → Puts a b (first_bytes (size_of p) p)
+part-all a b n p all h = subst (Puts a b) (first_bytes-all n p all ∙ sym (first_bytes-all (size_of p) p (omega arith))) h
+
+pub part-longer : (a b : Telling) (n : ℕ) (p q : List Put) → Puts a b (first_bytes n p) → (n ≤ size_of p) ⊎ (size_of p ≤ n) → PutsPart a b (p ++ q)
+part-longer a b n p q h (inl few) = (n, part-few a b n p q few h)
+part-longer a b n p q h (inr all) = (size_of p, part-few a b (size_of p) p q (omega arith) (part-all a b n p all h))
+
+pub either_order : (m n : ℕ) → (m ≤ n) ⊎ (n ≤ m)
+either_order zero n = inl (omega arith)
+either_order (suc m) zero = inr (omega arith)
+either_order (suc m) (suc n) = elim (either_order m n) [ inl h ↦ inl (omega (arith, h)) | inr h ↦ inr (omega (arith, h)) ]
+
+-- a part of the first puts is a part of all
+pub PutsPart-longer : (a b : Telling) (p q : List Put) → PutsPart a b p → PutsPart a b (p ++ q)
+PutsPart-longer a b p q (n, h) = part-longer a b n p q h (either_order n (size_of p))
+
+-- the first puts whole, and a part of the others
+pub PutsPart-behind : (a b c : Telling) (p q : List Put) → Puts a b p → PutsPart b c q → PutsPart a c (p ++ q)
+PutsPart-behind a b c p q h (n, k) = (
+  size_of p + n,
+  let left : (size_of p + n) - size_of p ≡ n = omega arith in
+      let all : first_bytes (size_of p + n) p ≡ p = first_bytes-all (size_of p + n) p (omega arith) in
+      let split : first_bytes (size_of p + n) (p ++ q) ≡ p ++ first_bytes n q =
+      first_bytes-append (size_of p + n) p q ∙ ap (λ (m : List Put). m ++ first_bytes ((size_of p + n) - size_of p) q) all
+      ∙ ap (λ (j : ℕ). p ++ first_bytes j q) left in
+      subst (Puts a c) (sym split) (Puts-append a b c p (first_bytes n q) h k),
+)
+
+-- a part of the one put
+pub PutsPart-one : (a b : Telling) (at x : List ℕ) → AppendsPart a b at x → PutsPart a b (put_of at x ∷ [])
+PutsPart-one a b at x (front, rest, split, h) = (
   length front,
-  let made : Puts a b (first_bytes (length front) (put_of at (front ++ rest) ∷ p)) =
-      Puts-same a b (put_of at front ∷ []) (first_bytes (length front) (put_of at (front ++ rest) ∷ p))
-      (λ name. first_bytes-head name at front rest p) (Puts-one a b at front h) in
-      rw split made,
+  let all : take (length front) x ≡ front = ap (take (length front)) split ∙ take-append_seam front rest in
+      subst (λ (m : List ℕ). Puts a b (put_of at m ∷ [])) (sym all) (Puts-one a b at front h),
 )
 
--- the first put whole, and a part of the others
-pub PutsPart-tail : (a b c : Telling) (at x : List ℕ) (p : List Put) → Appends a b at x → PutsPart b c p → PutsPart a c (put_of at x ∷ p)
-PutsPart-tail a b c at x p h (n, k) = (
-  length x + n,
-  let left : length x + n - length x ≡ n = omega arith in
-      let all : take (length x + n) x ≡ x = take_all (length x + n) x (omega arith) in
-      rw (left, all) (Puts-append a b c (put_of at x ∷ []) (first_bytes n p) (Puts-one a b at x h) k),
+-- ---- the first puts, each of them whole
+
+pub PutsFirst-none : (a b : Telling) (p : List Put) → Same a b → PutsFirst a b p
+PutsFirst-none a b p h = (0, Puts-none a b h)
+
+pub PutsFirst-longer : (a b : Telling) (p q : List Put) → PutsFirst a b p → PutsFirst a b (p ++ q)
+PutsFirst-longer a b p q (n, h) = (
+  min n (length p),
+  let same : take (min n (length p)) (p ++ q) ≡ take n p = take-append-le (min n (length p)) p q (omega arith) ∙ take_min n p in
+      subst (Puts a b) (sym same) h,
 )
 
--- all of two puts, and of the second a part
-pub PutsPart-two : (a b c : Telling) (at x at_too y : List ℕ) → Appends a b at x → AppendsPart b c at_too y → PutsPart a c (put_of at x ∷ put_of at_too y ∷ [])
-PutsPart-two a b c at x at_too y h k = PutsPart-tail a b c at x (put_of at_too y ∷ []) h (PutsPart-head b c at_too y [] k)
+pub PutsFirst-behind : (a b c : Telling) (p q : List Put) → Puts a b p → PutsFirst b c q → PutsFirst a c (p ++ q)
+PutsFirst-behind a b c p q h (n, k) = (length p + n, subst (Puts a c) (sym (take-append-add p q n)) (Puts-append a b c p (take n q) h k))
 
 pub Appends-part : (a b : Telling) (at x : List ℕ) → AppendsPart a b at x → (n : ℕ) × Appends a b at (take n x)
 Appends-part a b at x (front, rest, split, h) = (

@@ -118,13 +118,20 @@ job_file_in asked = option_map_or (λ command. command.job) asked []
 abbrev pub fault_line : Asked → Fault → List ℕ
 fault_line asked fault = line_of (job_file_in asked) fault
 
+-- a command stopped with so many faults of its outputs counted, and then so many bytes of a fault's line went to
+-- standard error
+pub record IsTold (asked : Asked) (before after : Seen) (fault : Fault) (done : List Put) (counted n : ℕ) : Type 0 where
+  pub cause : FaultCause asked before (record after { output_faults = counted }) done fault
+  pub line : IsToldUpTo n (fault_line asked fault) counted after.output_faults
+  pub puts : Puts before.outputs after.outputs (done ++ put_of (codes "!") (take n (fault_line asked fault)) ∷ [])
+  pub earlier : before.output_faults ≤ counted
+  pub later : counted ≤ after.output_faults
+
 -- a command ended with a fault's status: it had stopped for the fault's cause, and then the fault's line went to
 -- standard error
 abbrev pub EndsWithFault : Asked → Seen → Seen → ℕ → Type 0
 EndsWithFault asked before after status =
-    (fault : Fault) × (done : List Put) × (n : ℕ) × (status ≡ status_of fault) × FaultCause asked before after done fault
-    × IsToldUpTo n (fault_line asked fault) before.output_faults after.output_faults
-    × Puts before.outputs after.outputs (done ++ put_of (codes "!") (take n (fault_line asked fault)) ∷ [])
+    (fault : Fault) × (done : List Put) × (counted : ℕ) × (n : ℕ) × (status ≡ status_of fault) × IsTold asked before after fault done counted n
 
 -- a command ended with its work done: its output was put, and nothing else
 abbrev pub EndsDone : Asked → Seen → Seen → Type 0

@@ -1,7 +1,8 @@
 -- What a command puts where its work is done.
-use Rattle.std.specs.Prelude.{◌≡◌, ◌⊎◌, ℕ, zero, suc, Bool, true, false, not, ◌&&◌, List, [], ◌∷◌, ◌++◌, length, Option, Some, None, option_map, option_and_then, slice_get, slice_index, bytes_eq, codes, if◌then◌else◌, get_or}
+use Rattle.std.specs.Prelude.{◌≡◌, ◌⊎◌, ℕ, zero, suc, Vec, map, Bool, true, false, not, ◌&&◌, List, [], ◌∷◌, ◌++◌, length, Option, Some, None, option_map, option_and_then, slice_get, slice_index, bytes_eq, codes, if◌then◌else◌, get_or}
 use Rattle.std.specs.List.{list_any}
 use Rattle.std.specs.Option.{option_map_or}
+use Rattle.std.specs.declared.alloc.Global.{Global}
 use Rattle.ss_elem.specs.declared.element.Element.{Element}
 use Rattle.ss_job.specs.JobText.{VertexText, source, inner, sink, JobText, op_of}
 use Rattle.ss_report.specs.StateText.{state_text}
@@ -32,6 +33,10 @@ abbrev pub check_puts : JobText → List Put
 check_puts job = put_of (codes "-") (check_text job) ∷ []
 
 -- ---- run: the lines of each sink, and then the summary
+
+-- the lists of elements that vectors hold
+abbrev pub lists_of : List (Vec Element Global) → List (List Element)
+lists_of streams = map (λ list. list.items) streams
 
 -- the file of vertex v, where it is a sink
 abbrev pub file_of_sink : VertexText → Option (List ℕ)
@@ -69,6 +74,10 @@ summary_text job streams = summary_lines job streams (length job.vertices) ++ st
 -- a sink writes to standard output
 abbrev pub writes_to_output : VertexText → Bool
 writes_to_output vertex = option_map_or (λ file. bytes_eq file (codes "-")) (file_of_sink vertex) false
+
+-- the same of vertex v
+abbrev pub shows : JobText → ℕ → Bool
+shows job v = option_map_or (λ file. bytes_eq file (codes "-")) (sink_file job v) false
 
 abbrev pub shows_sink : JobText → Bool
 shows_sink job = list_any writes_to_output job.vertices

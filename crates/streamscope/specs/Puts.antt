@@ -42,7 +42,7 @@ abbrev pub PutsFirst : Telling → Telling → List Put → Type 0
 PutsFirst old new puts = (count : ℕ) × Puts old new (take count puts)
 
 -- how these puts end: all stand, or the device failed in one of them, or memory was wanting between two
-abbrev pub Wrote : {A : Type 0} → Telling → Telling → ℕ → ℕ → List Put → Result A PutFault → Type 0
+abbrev pub Wrote : Telling → Telling → ℕ → ℕ → List Put → Result (Unit {0}) PutFault → Type 0
 Wrote old new faults_before faults_after puts (Ok _) = Puts old new puts
 Wrote old new faults_before faults_after puts (Err Failed) = PutsPart old new puts × Rose faults_before faults_after
 Wrote old new faults_before faults_after puts (Err Memory) = PutsFirst old new puts

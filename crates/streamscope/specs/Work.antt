@@ -4,7 +4,9 @@ use Rattle.ss_elem.specs.declared.element.Element.{Element}
 use Rattle.ss_events.specs.Events.{event_list}
 use Rattle.ss_events.specs.declared.late.Late.{Late}
 use Rattle.ss_events.specs.declared.fault.EventFault.{EventFault}
-use Rattle.ss_job.specs.JobText.{VertexText, source, inner, sink, JobText}
+use Rattle.ss_job.specs.JobText.{VertexText, source, inner, sink, JobText, op_of_vertex}
+use Rattle.ss_job.specs.declared.op.Op.{Op}
+use Rattle.ss_job.specs.declared.op.Op.TheVariants as op
 use Rattle.ss_job.specs.Says.{Says}
 use Rattle.ss_outside.specs.Told.{Telling, AreBytesOf}
 use Rattle.ss_words.specs.Words.{CommandText}
@@ -35,10 +37,16 @@ SayJob asked action told job = (file : List ℕ) × Names asked action file × F
 
 -- ---- jobs that can be run: today those of sources and sinks alone
 
+abbrev pub is_operator_op : Op → Bool
+is_operator_op op.Source = false
+is_operator_op op.Select = true
+is_operator_op op.Union = true
+is_operator_op op.Window = true
+is_operator_op op.Join = true
+is_operator_op op.Sink = false
+
 abbrev pub is_operator : VertexText → Bool
-is_operator (source file late) = false
-is_operator (inner spec policy) = true
-is_operator (sink file) = false
+is_operator vertex = is_operator_op (op_of_vertex vertex)
 
 -- the number of the first operator, where the vertices are counted on from v
 abbrev pub first_operator : ℕ → List VertexText → Option ℕ

@@ -8,11 +8,7 @@ use ss_report::{StateRow, state_line};
 use std::alloc::{AllocError, Global};
 
 /// Puts the lines of a job to standard output.
-pub(crate) fn check<O: Outputs>(
-    alloc: Global,
-    outputs: &mut O,
-    job: &Job,
-) -> Result<(), PutFault>
+pub(crate) fn check<O: Outputs>(alloc: Global, outputs: &mut O, job: &Job) -> Result<(), PutFault>
     ensures wrote { Wrote (O.bytes outputs.old) (O.bytes outputs.new) (O.count outputs.old) (O.count outputs.new) (check_puts job.now) result }
     ensures counts { O.count outputs.old ≤ O.count outputs.new }
 {
@@ -35,7 +31,9 @@ fn lines_of(alloc: Global, job: &Job) -> Result<Vec<u8>, AllocError>
     for v in 0..count {
         put_vertex(&mut text, job, v)?;
     }
-    let row = StateRow::Checked { count: count as u64 };
+    let row = StateRow::Checked {
+        count: count as u64,
+    };
     state_line(&row, job.roles(), &mut text)?;
     Ok(text)
 }

@@ -1,12 +1,15 @@
 //! The program `streamscope`.
 #![tactic(auto)]
 
+ghost use Rattle.streamscope.specs.FaultText.{NamesFile};
+
 mod check;
 mod fault;
 mod outside;
 mod perform;
 mod read;
 mod run;
+mod sinks;
 mod sources;
 mod summary;
 mod work;
@@ -42,7 +45,9 @@ fn main(rt: HostRuntime) -> ExitCode {
 }
 
 /// Why there are no words: want of memory, or words that are no text.
-fn fault_of(error: &io::Error) -> Fault {
+fn fault_of(error: &io::Error) -> Fault
+    ensures { NamesFile result }
+{
     if error.kind() == io::ErrorKind::OutOfMemory {
         Fault::Memory
     } else {

@@ -80,12 +80,7 @@ fn conclude<I: Inputs, O: Outputs>(
 }
 
 /// Puts the fault's line to standard error, where the words name this job file, and gives the fault's status.
-pub(crate) fn refuse<O: Outputs>(
-    alloc: Global,
-    job_file: &str,
-    outputs: &mut O,
-    fault: Fault,
-) -> u8
+pub(crate) fn refuse<O: Outputs>(alloc: Global, job_file: &str, outputs: &mut O, fault: Fault) -> u8
     requires { NamesFile fault }
     ensures status { result ≡ status_of fault }
     ensures line { TellsLine (O.bytes outputs.old) (O.bytes outputs.new) (O.count outputs.old) (O.count outputs.new)

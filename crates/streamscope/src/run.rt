@@ -2,7 +2,7 @@ ghost use Rattle.std.specs.Prelude.{◌≡◌, ◌≤◌, OnOk, IfErr};
 ghost use Rattle.ss_outside.specs.Told.{Same};
 ghost use Rattle.streamscope.specs.Ends.{RunDone, RunStopped, seen};
 ghost use Rattle.streamscope.specs.Read.{fault_of_source};
-ghost use Rattle.streamscope.specs.Work.{unbuilt};
+ghost use Rattle.streamscope.specs.Work.{is_operator_op, unbuilt};
 
 use crate::fault::Fault;
 use crate::read::ReadFault;
@@ -29,8 +29,9 @@ pub(crate) fn run<I: Inputs, O: Outputs>(
     ensures input_counts { I.count inputs.old ≤ I.count inputs.new }
     ensures output_counts { O.count outputs.old ≤ O.count outputs.new }
 {
-    if let Some(v) = first_operator(&job) {
-        return Err(Fault::NotBuilt { v });
+    match first_operator(&job) {
+        Some(v) => return Err(Fault::NotBuilt { v }),
+        None => (),
     }
     let streams = match read_streams(alloc, inputs, &job) {
         Ok(streams) => streams,
@@ -60,10 +61,19 @@ fn first_operator(job: &Job) -> Option<u32>
     ensures { result ≡ unbuilt job.now }
 {
     for v in 0..job.graph().count() {
-        match job.op(v) {
-            Op::Source | Op::Sink => (),
-            Op::Select | Op::Union | Op::Window | Op::Join => return Some(v),
+        if is_operator(job.op(v)) {
+            return Some(v);
         }
     }
     None
+}
+
+/// Whether a vertex that does this is neither source nor sink.
+fn is_operator(op: Op) -> bool
+    ensures { result ≡ is_operator_op op }
+{
+    match op {
+        Op::Source | Op::Sink => false,
+        Op::Select | Op::Union | Op::Window | Op::Join => true,
+    }
 }

@@ -1,5 +1,6 @@
-ghost use Rattle.std.specs.Prelude.{◌≡◌, ◌≤◌, ◌<◌, IfOk, IfErr, length, map};
+ghost use Rattle.std.specs.Prelude.{◌≡◌, ◌≤◌, ◌<◌, IfOk, IfErr, length};
 ghost use Rattle.ss_outside.specs.Told.{Same};
+ghost use Rattle.streamscope.specs.Output.{lists_of};
 ghost use Rattle.streamscope.specs.Read.{IsReadCauseOfVertex, IsSourceCause};
 ghost use Rattle.streamscope.specs.Work.{AreStreams, IsStreamAt};
 
@@ -26,7 +27,7 @@ pub(crate) fn read_streams<I: Inputs>(
     inputs: &mut I,
     job: &Job,
 ) -> Result<Vec<Vec<Element>>, SourceFault>
-    ensures streams { IfOk result (λ streams. AreStreams (I.bytes inputs.old) job.now.vertices (map (λ list. list.items) streams.items)) }
+    ensures streams { IfOk result (λ streams. AreStreams (I.bytes inputs.old) job.now.vertices (lists_of streams.items)) }
     ensures refused { IfErr result (IsSourceCause (I.bytes inputs.old) job.now (I.count inputs.old) (I.count inputs.new)) }
     ensures told { Same (I.bytes inputs.old) (I.bytes inputs.new) }
     ensures counts { I.count inputs.old ≤ I.count inputs.new }

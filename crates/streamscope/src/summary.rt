@@ -1,10 +1,10 @@
-ghost use Rattle.std.specs.Prelude.{◌≡◌, ◌≤◌, ◌<◌, ◌++◌, IfOk, OnOk, length, map};
-ghost use Rattle.streamscope.specs.Output.{shows_sink, summary_line, summary_puts, summary_text};
+ghost use Rattle.std.specs.Prelude.{◌≡◌, ◌≤◌, ◌<◌, ◌++◌, IfOk, OnOk, length};
+ghost use Rattle.streamscope.specs.Output.{lists_of, shows, shows_sink, summary_line, summary_puts, summary_text};
 ghost use Rattle.streamscope.specs.Puts.{Wrote};
 
-use crate::write::taken_by;
+use crate::sinks::{sink_file, taken_by};
 use ss_elem::Element;
-use ss_job::{Job, Op};
+use ss_job::Job;
 use ss_outside::{Outputs, PutFault};
 use ss_report::{StateRow, state_line};
 use std::alloc::{AllocError, Global};
@@ -17,7 +17,7 @@ pub(crate) fn write_summary<O: Outputs>(
     streams: &[Vec<Element>],
 ) -> Result<(), PutFault>
     ensures wrote { Wrote (O.bytes outputs.old) (O.bytes outputs.new) (O.count outputs.old) (O.count outputs.new)
-        (summary_puts job.now (map (λ list. list.items) streams.now)) result }
+        (summary_puts job.now (lists_of streams.now)) result }
     ensures counts { O.count outputs.old ≤ O.count outputs.new }
 {
     if shows_sink(job) {
@@ -38,20 +38,27 @@ fn shows_sink(job: &Job) -> bool
     ensures { result ≡ shows_sink job.now }
 {
     for v in 0..job.graph().count() {
-        if job.op(v) == Op::Sink && job.file(v) == "-" {
+        if shows(job, v) {
             return true;
         }
     }
     false
 }
 
+/// Whether a vertex is a sink that writes to standard output.
+fn shows(job: &Job, v: u32) -> bool
+    requires { v < length job.now.vertices }
+    ensures { result ≡ shows job.now v }
+{
+    match sink_file(job, v) {
+        Some(file) => file == "-",
+        None => false,
+    }
+}
+
 /// The summary: a line for each sink, in order, and the last line.
-fn summary_of(
-    alloc: Global,
-    job: &Job,
-    streams: &[Vec<Element>],
-) -> Result<Vec<u8>, AllocError>
-    ensures { IfOk result (λ text. text.items ≡ summary_text job.now (map (λ list. list.items) streams.now)) }
+fn summary_of(alloc: Global, job: &Job, streams: &[Vec<Element>]) -> Result<Vec<u8>, AllocError>
+    ensures { IfOk result (λ text. text.items ≡ summary_text job.now (lists_of streams.now)) }
 {
     let mut text = Vec::new(alloc);
     for v in 0..job.graph().count() {
@@ -69,14 +76,16 @@ fn put_summary(
     v: u32,
 ) -> Result<(), AllocError>
     requires { v < length job.now.vertices }
-    ensures { OnOk result (text.new.items ≡ text.old.items ++ summary_line job.now (map (λ list. list.items) streams.now) v) }
+    ensures { OnOk result (text.new.items ≡ text.old.items ++ summary_line job.now (lists_of streams.now) v) }
 {
-    if job.op(v) != Op::Sink {
-        return Ok(());
-    }
-    let taken = taken_by(job, streams, v).len() as u64;
-    match state_line(&StateRow::Summary { k: v, taken }, job.roles(), text) {
-        Ok(()) => Ok(()),
-        Err(error) => Err(error),
+    match sink_file(job, v) {
+        Some(_) => {
+            let taken = taken_by(job, streams, v).len() as u64;
+            match state_line(&StateRow::Summary { k: v, taken }, job.roles(), text) {
+                Ok(()) => Ok(()),
+                Err(error) => Err(error),
+            }
+        }
+        None => Ok(()),
     }
 }

@@ -1,10 +1,11 @@
-ghost use Rattle.std.specs.Prelude.{◌≡◌, ◌≤◌, ◌<◌, length, map};
-ghost use Rattle.streamscope.specs.Output.{puts_below, run_puts, sink_puts, taken_by};
+ghost use Rattle.std.specs.Prelude.{◌≡◌, ◌≤◌, ◌<◌, length};
+ghost use Rattle.streamscope.specs.Output.{lists_of, puts_below, run_puts, sink_puts};
 ghost use Rattle.streamscope.specs.Puts.{Wrote, lines_to};
 
+use crate::sinks::{sink_file, taken_by};
 use crate::summary::write_summary;
 use ss_elem::{Element, LineBuf, line};
-use ss_job::{Job, Op};
+use ss_job::Job;
 use ss_outside::{Outputs, PutFault};
 use std::alloc::Global;
 
@@ -17,7 +18,7 @@ pub(crate) fn write_run<O: Outputs>(
     streams: &[Vec<Element>],
 ) -> Result<(), PutFault>
     ensures wrote { Wrote (O.bytes outputs.old) (O.bytes outputs.new) (O.count outputs.old) (O.count outputs.new)
-        (run_puts job.now (map (λ list. list.items) streams.now)) result }
+        (run_puts job.now (lists_of streams.now)) result }
     ensures counts { O.count outputs.old ≤ O.count outputs.new }
 {
     match write_sinks(outputs, job, streams) {
@@ -38,7 +39,7 @@ fn write_sinks<O: Outputs>(
     streams: &[Vec<Element>],
 ) -> Result<(), PutFault>
     ensures wrote { Wrote (O.bytes outputs.old) (O.bytes outputs.new) (O.count outputs.old) (O.count outputs.new)
-        (puts_below job.now (map (λ list. list.items) streams.now) (length job.now.vertices)) result }
+        (puts_below job.now (lists_of streams.now) (length job.now.vertices)) result }
     ensures counts { O.count outputs.old ≤ O.count outputs.new }
 {
     for v in 0..job.graph().count() {
@@ -60,29 +61,16 @@ fn write_sink<O: Outputs>(
 ) -> Result<(), PutFault>
     requires { v < length job.now.vertices }
     ensures wrote { Wrote (O.bytes outputs.old) (O.bytes outputs.new) (O.count outputs.old) (O.count outputs.new)
-        (sink_puts job.now (map (λ list. list.items) streams.now) v) result }
+        (sink_puts job.now (lists_of streams.now) v) result }
     ensures counts { O.count outputs.old ≤ O.count outputs.new }
 {
-    if job.op(v) != Op::Sink {
-        return Ok(());
-    }
-    let list = taken_by(job, streams, v);
-    match write_lines(outputs, job.file(v), list) {
-        Ok(()) => Ok(()),
-        Err(PutFault::Failed) => Err(PutFault::Failed),
-        Err(PutFault::Memory) => Err(PutFault::Memory),
-    }
-}
-
-/// The stream that a vertex reads at its first input.
-pub(crate) fn taken_by<'a>(job: &Job, streams: &'a [Vec<Element>], v: u32) -> &'a [Element]
-    requires { v < length job.now.vertices }
-    ensures { result.now ≡ taken_by job.now (map (λ list. list.items) streams.entry.now) v }
-{
-    let node = job.graph().node(v);
-    match streams.get(node.inputs[0] as usize) {
-        Some(list) => list.as_slice(),
-        None => &[],
+    match sink_file(job, v) {
+        Some(file) => match write_lines(outputs, file, taken_by(job, streams, v)) {
+            Ok(()) => Ok(()),
+            Err(PutFault::Failed) => Err(PutFault::Failed),
+            Err(PutFault::Memory) => Err(PutFault::Memory),
+        },
+        None => Ok(()),
     }
 }
 

@@ -1,0 +1,69 @@
+-- What is put for the vertices of a job, one after the other.
+use Rattle.std.proofs.Common.{◌≡◌, ℕ, zero, suc, ◌+◌, ◌≤◌, ◌<◌, ◌⊎◌, inl, inr, List, [], ◌∷◌, ◌++◌, length, map, Some, None, Option, refl, sym, ap, ◌∙◌, subst, append_assoc, add-one, arith}
+use Rattle.std.proofs.lemmas.List.{append-nil, length-map}
+use Rattle.ss_elem.specs.declared.element.Element.{Element}
+use Rattle.ss_job.specs.JobIn.{kind_of}
+use Rattle.ss_job.specs.JobText.{JobText, VertexText, op_of_vertex}
+use Rattle.ss_job.specs.Sound.{IsJob}
+use Rattle.ss_fail.specs.declared.role.Role.{Role}
+use Rattle.ss_water.specs.declared.node.Node.{Node}
+use Rattle.ss_water.specs.declared.node.Kind.{Kind}
+use Rattle.std.proofs.Common.{false, codes}
+use Rattle.ss_outside.specs.Faults.{Rose}
+use Rattle.ss_outside.specs.Told.{Telling, AppendsPart}
+use Rattle.ss_outside.specs.declared.outputs.PutFault.TheVariants.{Failed}
+use Rattle.std.specs.Prelude.{Err}
+use Rattle.streamscope.proofs.Puts.{PutsPart-one}
+use Rattle.streamscope.specs.Output.{shows_sink, summary_puts, summary_text, vertex_lines, line_of_vertex, puts_below, sink_puts, summary_lines, summary_line}
+use Rattle.streamscope.specs.Puts.{Put, put_of, PutsPart, Wrote}
+
+pub as_many_vertices : (job : JobText) → IsJob job → length job.vertices ≡ length job.graph
+as_many_vertices job sound =
+    sym (length-map job.vertices (λ (vertex : VertexText). kind_of (op_of_vertex vertex))) ∙ ap (λ (kinds : List Kind). length kinds) sound.vertices
+    ∙ length-map job.graph (λ (node : Node). node.kind)
+
+-- the count of a job's graph is that of its vertices
+pub count_is : (job : JobText) (graph : List Node) (n : ℕ) → IsJob job → graph ≡ job.graph → n ≡ length graph → n ≡ length job.vertices
+count_is job graph n sound same counted = counted ∙ ap (λ (nodes : List Node). length nodes) same ∙ sym (as_many_vertices job sound)
+
+pub as_many_roles : (job : JobText) → IsJob job → length job.roles ≡ length job.graph
+as_many_roles job sound =
+    sym (length-map job.roles (λ (role : Role). role.kind)) ∙ ap (λ (kinds : List Kind). length kinds) sound.roles
+    ∙ length-map job.graph (λ (node : Node). node.kind)
+
+pub vertex_lines-more : (job : JobText) (v : ℕ) → vertex_lines job (v + 1) ≡ vertex_lines job v ++ line_of_vertex job v
+vertex_lines-more job v = rw add-one refl
+
+pub puts_below-more : (job : JobText) (streams : List (List Element)) (v : ℕ) → puts_below job streams (v + 1) ≡ puts_below job streams v ++ sink_puts job streams v
+puts_below-more job streams v = rw add-one refl
+
+pub summary_lines-more : (job : JobText) (streams : List (List Element)) (v : ℕ) → summary_lines job streams (v + 1) ≡ summary_lines job streams v ++ summary_line job streams v
+summary_lines-more job streams v = rw add-one refl
+
+-- the last or an earlier one
+pub last_or_earlier : (v n : ℕ) → v < suc n → (v ≡ n) ⊎ (v < n)
+last_or_earlier zero zero h = inl refl
+last_or_earlier zero (suc n) h = inr (omega arith)
+last_or_earlier (suc v) zero h = absurd (omega (arith, h))
+last_or_earlier (suc v) (suc n) h = elim (last_or_earlier v n (omega (arith, h))) [ inl e ↦ inl (ap suc e) | inr less ↦ inr (omega (arith, less)) ]
+
+pub puts_below-split : (job : JobText) (streams : List (List Element)) (v n : ℕ) → v < n →
+    (rest : List Put) × (puts_below job streams n ≡ (puts_below job streams v ++ sink_puts job streams v) ++ rest)
+puts_below-split job streams v zero h = absurd (omega (arith, h))
+puts_below-split job streams v (suc n) h = elim (last_or_earlier v n h) [
+  | inl last ↦ ([], subst (λ (w : ℕ). puts_below job streams (suc n) ≡ (puts_below job streams w ++ sink_puts job streams w) ++ []) (sym last) (sym (append-nil (puts_below job streams (suc n)))))
+  | inr less ↦ let (rest, e) = puts_below-split job streams v n less in
+      (rest ++ sink_puts job streams n, ap (λ (p : List Put). p ++ sink_puts job streams n) e ∙ append_assoc (puts_below job streams v ++ sink_puts job streams v) rest (sink_puts job streams n))
+]
+
+-- ---- the summary
+
+pub summary_puts-one : (job : JobText) (streams : List (List Element)) → shows_sink job ≡ false → summary_puts job streams ≡ put_of (codes "-") (summary_text job streams) ∷ []
+summary_puts-one job streams h = rw h refl
+
+pub summary-failed : (a b : Telling) (m k : ℕ) (job : JobText) (streams : List (List Element)) (text : List ℕ) → shows_sink job ≡ false → text ≡ summary_text job streams →
+    AppendsPart a b (codes "-") text → Rose m k → PutsPart a b (summary_puts job streams) × Rose m k
+summary-failed a b m k job streams text hidden is part rose = (
+  subst (PutsPart a b) (sym (summary_puts-one job streams hidden)) (PutsPart-one a b (codes "-") (summary_text job streams) (subst (AppendsPart a b (codes "-")) is part)),
+  rose,
+)
