@@ -1,0 +1,16 @@
+pub mod Readings
+pub mod FieldReadings
+pub mod Earlier
+pub mod Absent
+pub mod VertexReadings
+pub mod DocumentReadings
+pub mod Views
+pub mod NameLists
+pub mod NumberLoop
+pub mod StreamLoop
+pub mod SoundInputs
+pub mod Graphs
+pub mod DraftLoop
+pub mod Refusals
+pub mod SoundFields
+pub mod SoundJob

@@ -23,6 +23,17 @@ impl From<AllocError> for JobsFault {
     }
 }
 
+impl From<JobFault> for JobsFault {
+    ghost use Rattle.std.specs.Prelude.{◌≡◌};
+    ghost use Rattle.ss_job.specs.declared.fault.JobsFault.TheVariants.{At};
+
+    ghost from_gives = { λ at fault. fault ≡ At at };
+
+    fn from(fault: JobFault) -> JobsFault {
+        JobsFault::At(fault)
+    }
+}
+
 /// What is wrong with the bytes of a job file, and at which vertex.
 #[derive(Clone, Copy, Debug, PartialEq, Eq)]
 pub struct JobFault {
@@ -31,6 +42,28 @@ pub struct JobFault {
     pub vertex: Option<u32>,
     /// What is wrong.
     pub why: JobWhy,
+}
+
+impl JobFault {
+    ghost use Rattle.std.specs.Prelude.{◌≡◌};
+    ghost use Rattle.ss_job.specs.Faults.{whole, at};
+
+    /// A fault of no single vertex.
+    pub(crate) fn whole(why: JobWhy) -> JobFault
+        ensures { result ≡ whole why }
+    {
+        JobFault { vertex: None, why }
+    }
+
+    /// A fault of the vertex of this number.
+    pub(crate) fn at(v: u32, why: JobWhy) -> JobFault
+        ensures { result ≡ at v why }
+    {
+        JobFault {
+            vertex: Some(v),
+            why,
+        }
+    }
 }
 
 /// What is wrong with the bytes of a job file.
@@ -84,4 +117,35 @@ pub enum JobWhy {
     NoSink,
     /// There are more than 32 vertices.
     TooManyVertices,
+}
+
+/// Why a table gives no vertex.
+#[derive(Clone, Copy, Debug)]
+pub(crate) enum Refusal {
+    /// The table is at fault.
+    Why(JobWhy),
+    /// Memory ran out.
+    Memory,
+}
+
+impl From<AllocError> for Refusal {
+    ghost use Rattle.std.specs.Prelude.{◌≡◌};
+    ghost use Rattle.ss_job.specs.declared.fault.Refusal.TheVariants.{Memory};
+
+    ghost from_gives = { λ _ refusal. refusal ≡ Memory };
+
+    fn from(_: AllocError) -> Refusal {
+        Refusal::Memory
+    }
+}
+
+impl From<JobWhy> for Refusal {
+    ghost use Rattle.std.specs.Prelude.{◌≡◌};
+    ghost use Rattle.ss_job.specs.declared.fault.Refusal.TheVariants.{Why};
+
+    ghost from_gives = { λ why refusal. refusal ≡ Why why };
+
+    fn from(why: JobWhy) -> Refusal {
+        Refusal::Why(why)
+    }
 }

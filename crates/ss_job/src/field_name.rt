@@ -1,3 +1,6 @@
+ghost use Rattle.std.specs.Prelude.{◌≡◌};
+ghost use Rattle.ss_job.specs.Format.{key_of};
+
 /// A field of a job file.
 #[derive(Clone, Copy, Debug, PartialEq, Eq)]
 pub enum FieldName {
@@ -39,4 +42,33 @@ pub enum FieldName {
     Every,
     /// How many replicas of a vertex there are.
     Replicas,
+}
+
+impl FieldName {
+    /// The key under which the field stands.
+    pub(crate) fn key(self) -> &'static str
+        ensures { result.now ≡ key_of self }
+    {
+        match self {
+            FieldName::Job => "job",
+            FieldName::Vertex => "vertex",
+            FieldName::MaxElements => "max_elements",
+            FieldName::CollectEvery => "collect_every",
+            FieldName::Name => "name",
+            FieldName::Op => "op",
+            FieldName::Inputs => "inputs",
+            FieldName::File => "file",
+            FieldName::Late => "late",
+            FieldName::Where => "where",
+            FieldName::A => "a",
+            FieldName::B => "b",
+            FieldName::Size => "size",
+            FieldName::Hop => "hop",
+            FieldName::Agg => "agg",
+            FieldName::Of => "of",
+            FieldName::Recover => "recover",
+            FieldName::Every => "every",
+            FieldName::Replicas => "replicas",
+        }
+    }
 }

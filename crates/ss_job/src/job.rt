@@ -1,6 +1,7 @@
 //! A job.
-ghost use Rattle.std.specs.Prelude.{◌≡◌, ◌<◌, Some, length, option_map, IsSome};
+ghost use Rattle.std.specs.Prelude.{◌≡◌, ◌<◌, Some, length, map, option_map, IsSome};
 
+use crate::limits::Limits;
 use crate::op::Op;
 use crate::policy::Policy;
 use crate::vertex::Vertex;
@@ -31,22 +32,37 @@ impl Model for Job {
     ghost coded = { Prim.hlevel (codes, spec.the_row.coded) };
 
     ghost use Rattle.ss_job.specs.Owned.{job_text};
+    ghost use Rattle.ss_job.specs.Sound.{IsJob};
 
     ghost view = { job_text };
-
-    ghost use Rattle.ss_job.specs.Sound.{IsJob};
 
     ghost invariant = { λ job. IsJob (job_text job) };
 }
 
 impl Job {
-    ghost use Rattle.ss_job.specs.Sound.{IsJob};
     ghost use Rattle.ss_job.specs.JobText.{op_of, file_of, late_of, spec_of, policy_of};
+    ghost use Rattle.ss_job.specs.Owned.{vertex_text};
+    ghost use Rattle.ss_job.specs.Reading.{job_of_parts};
+    ghost use Rattle.ss_job.specs.Sound.{IsJob};
+
+    /// The job with these parts.
+    pub(crate) fn new(graph: Graph, roles: Vec<Role>, vertices: Vec<Vertex>, limits: Limits) -> Job
+        requires { IsJob (job_of_parts graph roles.items (map vertex_text vertices.items) limits) }
+        ensures { result ≡ job_of_parts graph roles.items (map vertex_text vertices.items) limits }
+    {
+        Job {
+            graph,
+            roles,
+            vertices,
+            max_elements: limits.max_elements,
+            collect_every: limits.collect_every,
+        }
+    }
 
     /// Which vertex reads which.
     pub fn graph(&self) -> &Graph
         ensures graph { result.now ≡ self.now.graph }
-        ensures job { IsJob self.now }
+        ensures sound { IsJob self.now }
     {
         &self.graph
     }
@@ -54,7 +70,7 @@ impl Job {
     /// The vertices' names, kinds and replicas, in the order of their numbers.
     pub fn roles(&self) -> &[Role]
         ensures roles { result.now ≡ self.now.roles }
-        ensures job { IsJob self.now }
+        ensures sound { IsJob self.now }
     {
         self.roles.as_slice()
     }
@@ -62,7 +78,8 @@ impl Job {
     /// What a vertex does.
     pub fn op(&self, v: u32) -> Op
         requires { v < length self.now.vertices }
-        ensures { op_of self.now v ≡ Some result }
+        ensures op { op_of self.now v ≡ Some result }
+        ensures sound { IsJob self.now }
     {
         match &self.vertices[v as usize] {
             Vertex::Source { .. } => Op::Source,
@@ -79,7 +96,8 @@ impl Job {
     /// What a vertex computes; `None` of a source and of a sink.
     pub fn spec(&self, v: u32) -> Option<&Spec>
         requires { v < length self.now.vertices }
-        ensures { option_map (λ spec. spec.now) result ≡ spec_of self.now v }
+        ensures spec { option_map (λ spec. spec.now) result ≡ spec_of self.now v }
+        ensures sound { IsJob self.now }
     {
         match &self.vertices[v as usize] {
             Vertex::Source { .. } | Vertex::Sink { .. } => None,
@@ -90,7 +108,8 @@ impl Job {
     /// How an operator, a vertex that is neither source nor sink, is kept safe.
     pub fn policy(&self, v: u32) -> Policy
         requires { IsSome (policy_of self.now v) }
-        ensures { policy_of self.now v ≡ Some result }
+        ensures policy { policy_of self.now v ≡ Some result }
+        ensures sound { IsJob self.now }
     {
         match &self.vertices[v as usize] {
             Vertex::Source { .. } | Vertex::Sink { .. } => unreachable!(),
@@ -123,14 +142,16 @@ impl Job {
 
     /// The most elements that a stream may have, 1 to 131,072.
     pub fn max_elements(&self) -> u64
-        ensures { result ≡ self.now.max_elements }
+        ensures limit { result ≡ self.now.max_elements }
+        ensures sound { IsJob self.now }
     {
         self.max_elements
     }
 
     /// How many elements may be stored between two passes of collection, 64 to 131,072.
     pub fn collect_every(&self) -> u64
-        ensures { result ≡ self.now.collect_every }
+        ensures limit { result ≡ self.now.collect_every }
+        ensures sound { IsJob self.now }
     {
         self.collect_every
     }

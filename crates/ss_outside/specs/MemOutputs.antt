@@ -1,5 +1,5 @@
 -- What contracts see of outputs in memory.
-use Rattle.std.specs.Prelude.{ℕ, Bool, true, false, List, [], Option, Some, Result, Ok, Err, option_map, find, nat_eq}
+use Rattle.std.specs.Prelude.{ℕ, Bool, true, false, List, [], Option, Some, Result, Ok, Err, is_some, option_map, find, nat_eq}
 use Rattle.std.specs.Option.{option_map_or}
 use Rattle.std.specs.BTreeMap.{get_by_text}
 use Rattle.ss_outside.specs.declared.mem_outputs.MemOutputs.{MemOutputs}
@@ -14,6 +14,10 @@ outputs_held outputs name = option_map_or (λ bytes. bytes.items) (get_by_text o
 -- the telling: every name is told
 abbrev pub outputs_at : MemOutputs → List ℕ → Option (List ℕ)
 outputs_at outputs name = Some (outputs_held outputs name)
+
+-- the names that were put to
+abbrev pub outputs_names : MemOutputs → List ℕ → Bool
+outputs_names outputs name = is_some (get_by_text outputs.files name)
 
 -- the count of faults
 abbrev pub outputs_faults : MemOutputs → ℕ

@@ -1,5 +1,5 @@
 -- What an object of the outside tells of its names. A call's clauses relate the tellings before and after it.
-use Rattle.std.specs.Prelude.{◌≡◌, ℕ, List, ◌++◌, Option, None, option_map, if◌then◌else◌, bytes_eq, Some, IfSome}
+use Rattle.std.specs.Prelude.{◌≡◌, ℕ, Bool, false, List, ◌++◌, Option, None, option_map, if◌then◌else◌, bytes_eq, Some, IfSome}
 
 -- the bytes of each name, where they are told
 abbrev pub Telling : Type 0
@@ -28,3 +28,15 @@ Holds old new at bytes = (name : List ℕ) → new name ≡ (if bytes_eq name at
 -- the bytes are those of the name, where the name is told
 abbrev pub AreBytesOf : Telling → List ℕ → List ℕ → Type 0
 AreBytesOf told name bytes = IfSome (told name) (λ held. bytes ≡ held)
+
+-- which names were put to
+abbrev pub Names : Type 0
+Names = List ℕ → Bool
+
+-- the names that were put to are those of before
+abbrev pub SameNames : Names → Names → Type 0
+SameNames old new = (name : List ℕ) → new name ≡ old name
+
+-- the same of every name but `at`
+abbrev pub Spares : Names → Names → List ℕ → Type 0
+Spares old new at = (name : List ℕ) → bytes_eq name at ≡ false → new name ≡ old name

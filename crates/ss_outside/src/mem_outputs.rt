@@ -1,6 +1,6 @@
 //! Outputs in memory.
 
-ghost use Rattle.std.specs.Prelude.{◌≡◌, ℕ, ◌≤◌, if◌then◌else◌, [], ◌∷◌, ◌++◌, List, take, None, OnOk, OnErr, IsErrOf, IsSomeAnd};
+ghost use Rattle.std.specs.Prelude.{◌≡◌, ℕ, ◌≤◌, if◌then◌else◌, [], ◌∷◌, ◌++◌, List, take, false, None, OnOk, OnErr, IsErrOf, IsSomeAnd};
 
 use crate::Memory;
 use crate::outputs::{Outputs, PutFault};
@@ -17,12 +17,13 @@ pub struct MemOutputs {
 }
 
 impl MemOutputs {
-    ghost use Rattle.ss_outside.specs.Told.{Same, Appends};
-    ghost use Rattle.ss_outside.specs.MemOutputs.{outputs_held, outputs_at, outputs_faults, outputs_calls, outputs_listed, kept_at, next_kept, put_failed};
+    ghost use Rattle.ss_outside.specs.Told.{Same, Appends, SameNames, Spares};
+    ghost use Rattle.ss_outside.specs.MemOutputs.{outputs_held, outputs_at, outputs_names, outputs_faults, outputs_calls, outputs_listed, kept_at, next_kept, put_failed};
 
     /// No bytes under any name, and no put listed. It takes no memory.
     pub fn new(alloc: Global) -> MemOutputs
         ensures empty { (name : List ℕ) → outputs_held result name ≡ [] }
+        ensures names { (name : List ℕ) → outputs_names result name ≡ false }
         ensures listed { outputs_listed result ≡ [] }
         ensures calls { outputs_calls result ≡ 0 }
         ensures count { outputs_faults result ≡ 0 }
@@ -51,6 +52,7 @@ impl MemOutputs {
         ensures added { OnOk result (outputs_listed self.new ≡ outputs_listed self.old ++ (call, kept) ∷ []) }
         ensures err { OnErr result (outputs_listed self.new ≡ outputs_listed self.old) }
         ensures told { Same (outputs_at self.old) (outputs_at self.new) }
+        ensures names { SameNames (outputs_names self.old) (outputs_names self.new) }
         ensures calls { outputs_calls self.new ≡ outputs_calls self.old }
         ensures count { outputs_faults self.new ≡ outputs_faults self.old }
     {
@@ -62,6 +64,8 @@ impl MemOutputs {
     fn append(&mut self, name: &str, text: &[u8]) -> Result<(), Memory>
         ensures added { OnOk result (Appends (outputs_at self.old) (outputs_at self.new) name.now text.now) }
         ensures err { OnErr result (Same (outputs_at self.old) (outputs_at self.new)) }
+        ensures names { Spares (outputs_names self.old) (outputs_names self.new) name.now }
+        ensures untouched { OnErr result (SameNames (outputs_names self.old) (outputs_names self.new)) }
         ensures listed { outputs_listed self.new ≡ outputs_listed self.old }
         ensures calls { outputs_calls self.new ≡ outputs_calls self.old }
         ensures count { outputs_faults self.new ≡ outputs_faults self.old }
@@ -78,6 +82,8 @@ impl MemOutputs {
         requires { outputs_held self.old name.now ≡ [] }
         ensures added { OnOk result (Appends (outputs_at self.old) (outputs_at self.new) name.now text.now) }
         ensures err { OnErr result (Same (outputs_at self.old) (outputs_at self.new)) }
+        ensures names { Spares (outputs_names self.old) (outputs_names self.new) name.now }
+        ensures untouched { OnErr result (SameNames (outputs_names self.old) (outputs_names self.new)) }
         ensures listed { outputs_listed self.new ≡ outputs_listed self.old }
         ensures calls { outputs_calls self.new ≡ outputs_calls self.old }
         ensures count { outputs_faults self.new ≡ outputs_faults self.old }
@@ -100,10 +106,12 @@ impl MemOutputs {
 
 impl Outputs for MemOutputs {
     ghost use Rattle.ss_outside.specs.Faults.{next_count, Rose};
-    ghost use Rattle.ss_outside.specs.Told.{Same, Appends, AppendsPart};
-    ghost use Rattle.ss_outside.specs.MemOutputs.{outputs_at, outputs_faults, outputs_calls, outputs_listed, kept_at, next_kept, put_failed};
+    ghost use Rattle.ss_outside.specs.Told.{Same, Appends, AppendsPart, SameNames, Spares};
+    ghost use Rattle.ss_outside.specs.MemOutputs.{outputs_at, outputs_names, outputs_faults, outputs_calls, outputs_listed, kept_at, next_kept, put_failed};
 
     ghost bytes = { outputs_at };
+
+    ghost names = { outputs_names };
 
     ghost count = { outputs_faults };
 
@@ -116,6 +124,8 @@ impl Outputs for MemOutputs {
         ensures failed { IsErrOf result PutFault.Failed → Rose (outputs_faults self.old) (outputs_faults self.new) }
         ensures part { IsErrOf result PutFault.Failed → AppendsPart (outputs_at self.old) (outputs_at self.new) name.now text.now }
         ensures memory { IsErrOf result PutFault.Memory → Same (outputs_at self.old) (outputs_at self.new) }
+        ensures names { Spares (outputs_names self.old) (outputs_names self.new) name.now }
+        ensures untouched { IsErrOf result PutFault.Memory → SameNames (outputs_names self.old) (outputs_names self.new) }
         ensures counts { outputs_faults self.old ≤ outputs_faults self.new }
         ensures kept { IsErrOf result PutFault.Failed → IsSomeAnd (next_kept self.old) (λ kept. Appends (outputs_at self.old) (outputs_at self.new) name.now (take kept text.now)) }
         ensures unlisted { OnOk result (next_kept self.old ≡ None) }

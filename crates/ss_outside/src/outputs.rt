@@ -1,9 +1,9 @@
 //! Files that are written from front to back, by name.
 
-ghost use Rattle.std.specs.Prelude.{◌≡◌, ℕ, ◌≤◌, List, Option, OnOk, IsErrOf};
+ghost use Rattle.std.specs.Prelude.{◌≡◌, ℕ, ◌≤◌, Bool, List, Option, OnOk, IsErrOf};
 ghost use Rattle.ss_outside.specs.Faults.{Rose};
 ghost use Rattle.ss_outside.specs.declared.outputs.PutFault.TheVariants.{Memory};
-ghost use Rattle.ss_outside.specs.Told.{Same, Appends, AppendsPart};
+ghost use Rattle.ss_outside.specs.Told.{Same, Appends, AppendsPart, SameNames, Spares};
 
 use std::alloc::AllocError;
 
@@ -24,10 +24,13 @@ impl From<AllocError> for PutFault {
     }
 }
 
-/// A place to write files to. It may tell the bytes of its names, and it counts its faults.
+/// A place to write files to. It may tell the bytes of its names, it tells which names were put to, and it counts
+/// its faults.
 /// The name `-` stands for standard output and `!` for standard error.
 pub trait Outputs: Drop {
     ghost bytes: { Self → List ℕ → Option (List ℕ) };
+
+    ghost names: { Self → List ℕ → Bool };
 
     ghost count: { Self → ℕ };
 
@@ -41,5 +44,7 @@ pub trait Outputs: Drop {
         ensures failed { IsErrOf result PutFault.Failed → Rose (count self.old) (count self.new) }
         ensures part { IsErrOf result PutFault.Failed → AppendsPart (bytes self.old) (bytes self.new) name.now text.now }
         ensures memory { IsErrOf result PutFault.Memory → Same (bytes self.old) (bytes self.new) }
+        ensures names { Spares (names self.old) (names self.new) name.now }
+        ensures untouched { IsErrOf result PutFault.Memory → SameNames (names self.old) (names self.new) }
         ensures counts { count self.old ≤ count self.new };
 }

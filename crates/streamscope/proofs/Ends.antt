@@ -18,7 +18,7 @@ use Rattle.streamscope.specs.Work.{Asked, Names, SayJob, FileSaysJob, IsOutput, 
 use Rattle.streamscope.specs.declared.fault.Fault.{Fault}
 use Rattle.streamscope.specs.declared.fault.Fault.TheVariants.{Usage, Job, NotBuilt, Events, JobUnread, SourceUnread, Output, Memory}
 use Rattle.ss_outside.specs.declared.outputs.PutFault.TheVariants as put
-use Rattle.streamscope.proofs.Puts.{Puts-one, Puts-append}
+use Rattle.streamscope.proofs.Puts.{Puts-append}
 use Rattle.streamscope.proofs.Told.{OneReading, not_asked, no_job, no_job_fault, same_job, is_asked, asks_one, asks_other, built_or_not, not_or_built, event_clash, events_clash}
 use Rattle.streamscope.proofs.Wrote.{rose-earlier}
 
@@ -91,22 +91,20 @@ pub record IsLater (mid after : Seen) : Type 0 where
 pub stop_told : (asked : Asked) (before mid after : Seen) (status : ℕ) (fault : Fault) → IsLater before mid → IsLater mid after →
     Stopped asked before mid fault → status ≡ status_of fault →
     TellsLine mid.outputs after.outputs mid.output_faults after.output_faults (fault_line asked fault) → EndsWithFault asked before after status
-stop_told asked before mid after status fault first then (done, cause, puts) same (n, told, line) =
-    let behind : Puts mid.outputs after.outputs (put_of (codes "!") (take n (fault_line asked fault)) ∷ []) =
-    Puts-one mid.outputs after.outputs (codes "!") (take n (fault_line asked fault)) line in (
-      fault,
-      done,
-      mid.output_faults,
-      n,
-      same,
-      record {
-        cause = cause_counted asked before mid after done fault then.inputs cause;
-        line = told;
-        puts = Puts-append before.outputs mid.outputs after.outputs done (put_of (codes "!") (take n (fault_line asked fault)) ∷ []) puts behind;
-        earlier = first.outputs;
-        later = then.outputs;
-      },
-    )
+stop_told asked before mid after status fault first then (done, cause, puts) same (n, told, line) = (
+  fault,
+  done,
+  mid.output_faults,
+  n,
+  same,
+  record {
+    cause = cause_counted asked before mid after done fault then.inputs cause;
+    line = told;
+    puts = Puts-append before.outputs mid.outputs after.outputs done (put_of (codes "!") (take n (fault_line asked fault)) ∷ []) puts line;
+    earlier = first.outputs;
+    later = then.outputs;
+  },
+)
 
 -- ---- statuses
 

@@ -4,8 +4,10 @@ use Rattle.std.proofs.Math.Seq.{take-append_seam, take-append-add}
 use Rattle.std.proofs.lemmas.List.{append-nil, length-append, take_all, take_min, take-append-le}
 use Rattle.std.specs.Option.{option_map}
 use Rattle.std.specs.Str.{bytes_eq}
-use Rattle.ss_outside.specs.Told.{Telling, Same, Appends, AppendsPart}
-use Rattle.streamscope.specs.Puts.{Put, put_of, bytes_to, first_bytes, Puts, PutsPart, PutsFirst}
+use Rattle.std.proofs.Common.{◌||◌}
+use Rattle.std.proofs.lemmas.List.Folds.{list_any-append}
+use Rattle.ss_outside.specs.Told.{Telling, Same, SameNames, Spares, Appends, AppendsPart}
+use Rattle.streamscope.specs.Puts.{Put, put_of, bytes_to, is_put_to, first_bytes, Puts, PutsPart, PutsFirst, Written}
 
 abbrev pub behind : List ℕ → Option (List ℕ) → Option (List ℕ)
 behind more held = option_map (λ bytes. bytes ++ more) held
@@ -29,18 +31,25 @@ chosen-nil false o = refl
 pub Appends-nil : (a b : Telling) (at : List ℕ) → Same a b → Appends a b at []
 Appends-nil a b at h = λ name. h name ∙ chosen-nil (bytes_eq name at) (a name)
 
-pub Puts-nil : (a : Telling) → Puts a a []
-Puts-nil a = λ name. sym (behind-nil (a name))
+pub Puts-nil : (a : Written) → Puts a a []
+Puts-nil a = record { behind = λ name. sym (behind-nil (a.bytes name)); others = λ name none. refl }
 
-pub Puts-none : (a b : Telling) → Same a b → Puts a b []
-Puts-none a b h = λ name. h name ∙ sym (behind-nil (a name))
+pub Puts-none : (a b : Written) → Same a.bytes b.bytes → SameNames a.names b.names → Puts a b []
+Puts-none a b h k = record { behind = λ name. h name ∙ sym (behind-nil (a.bytes name)); others = λ name none. k name }
 
 pub chosen-is : (b : Bool) (x : List ℕ) (o : Option (List ℕ)) → (if b then behind x o else o) ≡ behind ((if b then x else []) ++ []) o
 chosen-is true x o = ap (λ (m : List ℕ). behind m o) (sym (append-nil x))
 chosen-is false x o = sym (behind-nil o)
 
-pub Puts-one : (a b : Telling) (at x : List ℕ) → Appends a b at x → Puts a b (put_of at x ∷ [])
-Puts-one a b at x h = λ name. h name ∙ chosen-is (bytes_eq name at) x (a name)
+pub or_false : (b : Bool) → (b || false) ≡ false → b ≡ false
+or_false true h = h
+or_false false h = refl
+
+pub Puts-one : (a b : Written) (at x : List ℕ) → Appends a.bytes b.bytes at x → Spares a.names b.names at → Puts a b (put_of at x ∷ [])
+Puts-one a b at x h k = record {
+  behind = λ name. h name ∙ chosen-is (bytes_eq name at) x (a.bytes name);
+  others = λ name other. k name (or_false (bytes_eq name at) other);
+}
 
 pub bytes_to-append : (name : List ℕ) (p q : List Put) → bytes_to name (p ++ q) ≡ bytes_to name p ++ bytes_to name q
 bytes_to-append name [] q = refl
@@ -48,13 +57,34 @@ bytes_to-append name (put ∷ p) q =
     ap (λ (m : List ℕ). (if bytes_eq name put.name then put.bytes else []) ++ m) (bytes_to-append name p q)
     ∙ sym (append_assoc (if bytes_eq name put.name then put.bytes else []) (bytes_to name p) (bytes_to name q))
 
-pub Puts-append : (a b c : Telling) (p q : List Put) → Puts a b p → Puts b c q → Puts a c (p ++ q)
-Puts-append a b c p q h k = λ name.
-    k name ∙ ap (behind (bytes_to name q)) (h name) ∙ behind-behind (bytes_to name p) (bytes_to name q) (a name)
-    ∙ ap (λ (m : List ℕ). behind m (a name)) (sym (bytes_to-append name p q))
+pub first_false : (b c : Bool) → (b || c) ≡ false → b ≡ false
+first_false true c h = h
+first_false false c h = refl
 
-pub Puts-same : (a b : Telling) (p q : List Put) → ((name : List ℕ) → bytes_to name p ≡ bytes_to name q) → Puts a b p → Puts a b q
-Puts-same a b p q same h = λ name. h name ∙ ap (λ (m : List ℕ). behind m (a name)) (same name)
+pub second_false : (b c : Bool) → (b || c) ≡ false → c ≡ false
+second_false true c h = absurd (cc h)
+second_false false c h = h
+
+-- a name that none of all puts is to, none of the first and none of the others is to
+pub not_in_first : (name : List ℕ) (p q : List Put) → is_put_to name (p ++ q) ≡ false → is_put_to name p ≡ false
+not_in_first name p q h = first_false (is_put_to name p) (is_put_to name q) (sym (list_any-append (λ (put : Put). bytes_eq name put.name) p q) ∙ h)
+
+pub not_in_others : (name : List ℕ) (p q : List Put) → is_put_to name (p ++ q) ≡ false → is_put_to name q ≡ false
+not_in_others name p q h = second_false (is_put_to name p) (is_put_to name q) (sym (list_any-append (λ (put : Put). bytes_eq name put.name) p q) ∙ h)
+
+pub Puts-append : (a b c : Written) (p q : List Put) → Puts a b p → Puts b c q → Puts a c (p ++ q)
+Puts-append a b c p q h k = record {
+  behind = λ name. k.behind name ∙ ap (behind (bytes_to name q)) (h.behind name) ∙ behind-behind (bytes_to name p) (bytes_to name q) (a.bytes name)
+      ∙ ap (λ (m : List ℕ). behind m (a.bytes name)) (sym (bytes_to-append name p q));
+  others = λ name none. k.others name (not_in_others name p q none) ∙ h.others name (not_in_first name p q none);
+}
+
+-- puts of the same bytes to names of which none is another
+pub Puts-same : (a b : Written) (p q : List Put) → ((name : List ℕ) → bytes_to name p ≡ bytes_to name q) → ((name : List ℕ) → is_put_to name q ≡ false → is_put_to name p ≡ false) → Puts a b p → Puts a b q
+Puts-same a b p q same fewer h = record {
+  behind = λ name. h.behind name ∙ ap (λ (m : List ℕ). behind m (a.bytes name)) (same name);
+  others = λ name none. h.others name (fewer name none);
+}
 
 -- ---- the first bytes of puts
 
@@ -98,13 +128,20 @@ first_bytes-longer n p q name few =
     ∙ ap (λ (k : ℕ). bytes_to name (first_bytes n p) ++ bytes_to name (first_bytes k q)) none
     ∙ ap (λ (m : List ℕ). bytes_to name (first_bytes n p) ++ m) (no_bytes name q) ∙ append-nil (bytes_to name (first_bytes n p)))
 
-pub part-few : (a b : Telling) (n : ℕ) (p q : List Put) → n ≤ size_of p → Puts a b (first_bytes n p) → Puts a b (first_bytes n (p ++ q))
-part-few a b n p q few h = Puts-same a b (first_bytes n p) (first_bytes n (p ++ q)) (λ name. first_bytes-longer n p q name few) h
+-- the first bytes are put to the names of all puts
+pub first_bytes-names : (n : ℕ) (p : List Put) (name : List ℕ) → is_put_to name (first_bytes n p) ≡ is_put_to name p
+first_bytes-names n [] name = refl
+first_bytes-names n (put ∷ p) name = ap (λ (b : Bool). bytes_eq name put.name || b) (first_bytes-names (n - length put.bytes) p name)
 
-pub part-all : (a b : Telling) (n : ℕ) (p : List Put) → size_of p ≤ n → Puts a b (first_bytes n p) → Puts a b (first_bytes (size_of p) p)
+pub part-few : (a b : Written) (n : ℕ) (p q : List Put) → n ≤ size_of p → Puts a b (first_bytes n p) → Puts a b (first_bytes n (p ++ q))
+part-few a b n p q few h =
+    Puts-same a b (first_bytes n p) (first_bytes n (p ++ q)) (λ name. first_bytes-longer n p q name few)
+    (λ name none. first_bytes-names n p name ∙ not_in_first name p q (sym (first_bytes-names n (p ++ q) name) ∙ none)) h
+
+pub part-all : (a b : Written) (n : ℕ) (p : List Put) → size_of p ≤ n → Puts a b (first_bytes n p) → Puts a b (first_bytes (size_of p) p)
 part-all a b n p all h = subst (Puts a b) (first_bytes-all n p all ∙ sym (first_bytes-all (size_of p) p (omega arith))) h
 
-pub part-longer : (a b : Telling) (n : ℕ) (p q : List Put) → Puts a b (first_bytes n p) → (n ≤ size_of p) ⊎ (size_of p ≤ n) → PutsPart a b (p ++ q)
+pub part-longer : (a b : Written) (n : ℕ) (p q : List Put) → Puts a b (first_bytes n p) → (n ≤ size_of p) ⊎ (size_of p ≤ n) → PutsPart a b (p ++ q)
 part-longer a b n p q h (inl few) = (n, part-few a b n p q few h)
 part-longer a b n p q h (inr all) = (size_of p, part-few a b (size_of p) p q (omega arith) (part-all a b n p all h))
 
@@ -114,11 +151,11 @@ either_order (suc m) zero = inr (omega arith)
 either_order (suc m) (suc n) = elim (either_order m n) [ inl h ↦ inl (omega (arith, h)) | inr h ↦ inr (omega (arith, h)) ]
 
 -- a part of the first puts is a part of all
-pub PutsPart-longer : (a b : Telling) (p q : List Put) → PutsPart a b p → PutsPart a b (p ++ q)
+pub PutsPart-longer : (a b : Written) (p q : List Put) → PutsPart a b p → PutsPart a b (p ++ q)
 PutsPart-longer a b p q (n, h) = part-longer a b n p q h (either_order n (size_of p))
 
 -- the first puts whole, and a part of the others
-pub PutsPart-behind : (a b c : Telling) (p q : List Put) → Puts a b p → PutsPart b c q → PutsPart a c (p ++ q)
+pub PutsPart-behind : (a b c : Written) (p q : List Put) → Puts a b p → PutsPart b c q → PutsPart a c (p ++ q)
 PutsPart-behind a b c p q h (n, k) = (
   size_of p + n,
   let left : (size_of p + n) - size_of p ≡ n = omega arith in
@@ -130,31 +167,31 @@ PutsPart-behind a b c p q h (n, k) = (
 )
 
 -- a part of the one put
-pub PutsPart-one : (a b : Telling) (at x : List ℕ) → AppendsPart a b at x → PutsPart a b (put_of at x ∷ [])
-PutsPart-one a b at x (front, rest, split, h) = (
+pub PutsPart-one : (a b : Written) (at x : List ℕ) → AppendsPart a.bytes b.bytes at x → Spares a.names b.names at → PutsPart a b (put_of at x ∷ [])
+PutsPart-one a b at x (front, rest, split, h) k = (
   length front,
   let all : take (length front) x ≡ front = ap (take (length front)) split ∙ take-append_seam front rest in
-      subst (λ (m : List ℕ). Puts a b (put_of at m ∷ [])) (sym all) (Puts-one a b at front h),
+      subst (λ (m : List ℕ). Puts a b (put_of at m ∷ [])) (sym all) (Puts-one a b at front h k),
 )
 
 -- ---- the first puts, each of them whole
 
-pub PutsFirst-none : (a b : Telling) (p : List Put) → Same a b → PutsFirst a b p
-PutsFirst-none a b p h = (0, Puts-none a b h)
+pub PutsFirst-none : (a b : Written) (p : List Put) → Same a.bytes b.bytes → SameNames a.names b.names → PutsFirst a b p
+PutsFirst-none a b p h k = (0, Puts-none a b h k)
 
-pub PutsFirst-longer : (a b : Telling) (p q : List Put) → PutsFirst a b p → PutsFirst a b (p ++ q)
+pub PutsFirst-longer : (a b : Written) (p q : List Put) → PutsFirst a b p → PutsFirst a b (p ++ q)
 PutsFirst-longer a b p q (n, h) = (
   min n (length p),
   let same : take (min n (length p)) (p ++ q) ≡ take n p = take-append-le (min n (length p)) p q (omega arith) ∙ take_min n p in
       subst (Puts a b) (sym same) h,
 )
 
-pub PutsFirst-behind : (a b c : Telling) (p q : List Put) → Puts a b p → PutsFirst b c q → PutsFirst a c (p ++ q)
+pub PutsFirst-behind : (a b c : Written) (p q : List Put) → Puts a b p → PutsFirst b c q → PutsFirst a c (p ++ q)
 PutsFirst-behind a b c p q h (n, k) = (length p + n, subst (Puts a c) (sym (take-append-add p q n)) (Puts-append a b c p (take n q) h k))
 
-pub Appends-part : (a b : Telling) (at x : List ℕ) → AppendsPart a b at x → (n : ℕ) × Appends a b at (take n x)
-Appends-part a b at x (front, rest, split, h) = (
+pub Puts-front : (a b : Written) (at x : List ℕ) → AppendsPart a.bytes b.bytes at x → Spares a.names b.names at → (n : ℕ) × Puts a b (put_of at (take n x) ∷ [])
+Puts-front a b at x (front, rest, split, h) k = (
   length front,
   let all : front ≡ take (length front) x = rw split (sym (take-append_seam front rest)) in
-      subst (Appends a b at) all h,
+      subst (λ (m : List ℕ). Puts a b (put_of at m ∷ [])) all (Puts-one a b at front h k),
 )

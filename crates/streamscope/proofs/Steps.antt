@@ -10,26 +10,19 @@ use Rattle.ss_water.specs.declared.node.Node.{Node}
 use Rattle.ss_water.specs.declared.node.Kind.{Kind}
 use Rattle.std.proofs.Common.{false, codes}
 use Rattle.ss_outside.specs.Faults.{Rose}
-use Rattle.ss_outside.specs.Told.{Telling, AppendsPart}
+use Rattle.ss_outside.specs.Told.{AppendsPart, Spares}
 use Rattle.ss_outside.specs.declared.outputs.PutFault.TheVariants.{Failed}
 use Rattle.std.specs.Prelude.{Err}
 use Rattle.streamscope.proofs.Puts.{PutsPart-one}
 use Rattle.streamscope.specs.Output.{shows_sink, summary_puts, summary_text, vertex_lines, line_of_vertex, puts_below, sink_puts, summary_lines, summary_line}
-use Rattle.streamscope.specs.Puts.{Put, put_of, PutsPart, Wrote}
+use Rattle.streamscope.specs.Puts.{Put, put_of, PutsPart, Written}
 
 pub as_many_vertices : (job : JobText) → IsJob job → length job.vertices ≡ length job.graph
-as_many_vertices job sound =
-    sym (length-map job.vertices (λ (vertex : VertexText). kind_of (op_of_vertex vertex))) ∙ ap (λ (kinds : List Kind). length kinds) sound.vertices
-    ∙ length-map job.graph (λ (node : Node). node.kind)
+as_many_vertices job sound = sound.vertices
 
 -- the count of a job's graph is that of its vertices
 pub count_is : (job : JobText) (graph : List Node) (n : ℕ) → IsJob job → graph ≡ job.graph → n ≡ length graph → n ≡ length job.vertices
 count_is job graph n sound same counted = counted ∙ ap (λ (nodes : List Node). length nodes) same ∙ sym (as_many_vertices job sound)
-
-pub as_many_roles : (job : JobText) → IsJob job → length job.roles ≡ length job.graph
-as_many_roles job sound =
-    sym (length-map job.roles (λ (role : Role). role.kind)) ∙ ap (λ (kinds : List Kind). length kinds) sound.roles
-    ∙ length-map job.graph (λ (node : Node). node.kind)
 
 pub vertex_lines-more : (job : JobText) (v : ℕ) → vertex_lines job (v + 1) ≡ vertex_lines job v ++ line_of_vertex job v
 vertex_lines-more job v = rw add-one refl
@@ -61,9 +54,9 @@ puts_below-split job streams v (suc n) h = elim (last_or_earlier v n h) [
 pub summary_puts-one : (job : JobText) (streams : List (List Element)) → shows_sink job ≡ false → summary_puts job streams ≡ put_of (codes "-") (summary_text job streams) ∷ []
 summary_puts-one job streams h = rw h refl
 
-pub summary-failed : (a b : Telling) (m k : ℕ) (job : JobText) (streams : List (List Element)) (text : List ℕ) → shows_sink job ≡ false → text ≡ summary_text job streams →
-    AppendsPart a b (codes "-") text → Rose m k → PutsPart a b (summary_puts job streams) × Rose m k
-summary-failed a b m k job streams text hidden is part rose = (
-  subst (PutsPart a b) (sym (summary_puts-one job streams hidden)) (PutsPart-one a b (codes "-") (summary_text job streams) (subst (AppendsPart a b (codes "-")) is part)),
+pub summary-failed : (a b : Written) (m k : ℕ) (job : JobText) (streams : List (List Element)) (text : List ℕ) → shows_sink job ≡ false → text ≡ summary_text job streams →
+    AppendsPart a.bytes b.bytes (codes "-") text → Spares a.names b.names (codes "-") → Rose m k → PutsPart a b (summary_puts job streams) × Rose m k
+summary-failed a b m k job streams text hidden is part spares rose = (
+  subst (PutsPart a b) (sym (summary_puts-one job streams hidden)) (PutsPart-one a b (codes "-") (summary_text job streams) (subst (AppendsPart a.bytes b.bytes (codes "-")) is part) spares),
   rose,
 )

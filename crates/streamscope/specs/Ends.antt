@@ -10,11 +10,11 @@ use Rattle.ss_job.specs.Says.{Says, Refuses}
 use Rattle.ss_job.specs.declared.fault.JobFault.{JobFault}
 use Rattle.ss_job.specs.declared.fault.JobsFault.TheVariants.{At}
 use Rattle.ss_outside.specs.Faults.{Rose}
-use Rattle.ss_outside.specs.Told.{Telling, Same, Appends, AreBytesOf}
+use Rattle.ss_outside.specs.Told.{Telling, Same, AreBytesOf}
 use Rattle.ss_words.specs.declared.words.Action.{Action}
 use Rattle.ss_words.specs.declared.words.Action.TheVariants.{Check, Run}
 use Rattle.streamscope.specs.FaultText.{status_of, line_of}
-use Rattle.streamscope.specs.Puts.{Put, put_of, Puts, first_bytes}
+use Rattle.streamscope.specs.Puts.{Put, put_of, Puts, Written, first_bytes}
 use Rattle.streamscope.specs.Read.{IsFirstUnread}
 use Rattle.streamscope.specs.Output.{run_puts}
 use Rattle.streamscope.specs.Work.{Asked, Names, SayJob, AskRun, AreStreams, unbuilt, IsSourceAt, IsFirstFault, IsOutput}
@@ -24,11 +24,11 @@ use Rattle.streamscope.specs.declared.fault.Fault.TheVariants.{Usage, Job, NotBu
 -- what the outside tells at one moment: its files, its outputs, and the counts of faults of both
 pub record Seen : Type 0 where
   pub files : Telling
-  pub outputs : Telling
+  pub outputs : Written
   pub input_faults : ℕ
   pub output_faults : ℕ
 
-abbrev pub seen : Telling → Telling → ℕ → ℕ → Seen
+abbrev pub seen : Telling → Written → ℕ → ℕ → Seen
 seen files outputs input_faults output_faults =
     record { files = files; outputs = outputs; input_faults = input_faults; output_faults = output_faults }
 
@@ -106,9 +106,9 @@ abbrev pub IsToldUpTo : ℕ → List ℕ → ℕ → ℕ → Type 0
 IsToldUpTo n line faults_before faults_after = (n ≡ 0) ⊎ (length line ≤ n) ⊎ Rose faults_before faults_after
 
 -- the same, of a line that was put to standard error
-abbrev pub TellsLine : Telling → Telling → ℕ → ℕ → List ℕ → Type 0
+abbrev pub TellsLine : Written → Written → ℕ → ℕ → List ℕ → Type 0
 TellsLine old new faults_before faults_after line =
-    (n : ℕ) × IsToldUpTo n line faults_before faults_after × Appends old new (codes "!") (take n line)
+    (n : ℕ) × IsToldUpTo n line faults_before faults_after × Puts old new (put_of (codes "!") (take n line) ∷ [])
 
 -- the job file that the words name
 abbrev pub job_file_in : Asked → List ℕ

@@ -1,9 +1,10 @@
 -- What is put to the outputs.
-use Rattle.std.specs.Prelude.{◌≡◌, ℕ, ◌-◌, List, [], ◌∷◌, ◌++◌, length, map, take, Result, Ok, Err, option_map, if◌then◌else◌, bytes_eq}
+use Rattle.std.specs.Prelude.{◌≡◌, ℕ, ◌-◌, Bool, false, List, [], ◌∷◌, ◌++◌, length, map, take, Result, Ok, Err, option_map, if◌then◌else◌, bytes_eq}
+use Rattle.std.specs.List.{list_any}
 use Rattle.ss_elem.specs.Line.{line_of}
 use Rattle.ss_elem.specs.declared.element.Element.{Element}
 use Rattle.ss_outside.specs.Faults.{Rose}
-use Rattle.ss_outside.specs.Told.{Telling}
+use Rattle.ss_outside.specs.Told.{Telling, Names}
 use Rattle.ss_outside.specs.declared.outputs.PutFault.{PutFault}
 use Rattle.ss_outside.specs.declared.outputs.PutFault.TheVariants.{Failed, Memory}
 
@@ -29,20 +30,33 @@ abbrev pub first_bytes : ℕ → List Put → List Put
 first_bytes n [] = []
 first_bytes n (put ∷ puts) = record put { bytes = take n put.bytes } ∷ first_bytes (n - length put.bytes) puts
 
--- the puts stand behind what each name had, and nothing else changed
-abbrev pub Puts : Telling → Telling → List Put → Type 0
-Puts old new puts = (name : List ℕ) → new name ≡ option_map (λ held. held ++ bytes_to name puts) (old name)
+-- what outputs tell at one moment: the bytes of each name, and which names were put to
+pub record Written : Type 0 where
+  pub bytes : Telling
+  pub names : Names
+
+abbrev pub written : Telling → Names → Written
+written bytes names = record { bytes = bytes; names = names }
+
+-- one of the puts is to this name
+abbrev pub is_put_to : List ℕ → List Put → Bool
+is_put_to name puts = list_any (λ put. bytes_eq name put.name) puts
+
+-- the puts stand behind what each name had, nothing else changed, and no other name was put to
+pub record Puts (old new : Written) (puts : List Put) : Type 0 where
+  pub behind : (name : List ℕ) → new.bytes name ≡ option_map (λ held. held ++ bytes_to name puts) (old.bytes name)
+  pub others : (name : List ℕ) → is_put_to name puts ≡ false → new.names name ≡ old.names name
 
 -- the same of the first bytes of the puts, perhaps of all or of none
-abbrev pub PutsPart : Telling → Telling → List Put → Type 0
+abbrev pub PutsPart : Written → Written → List Put → Type 0
 PutsPart old new puts = (n : ℕ) × Puts old new (first_bytes n puts)
 
 -- the same of the first of the puts, each of them whole
-abbrev pub PutsFirst : Telling → Telling → List Put → Type 0
+abbrev pub PutsFirst : Written → Written → List Put → Type 0
 PutsFirst old new puts = (count : ℕ) × Puts old new (take count puts)
 
 -- how these puts end: all stand, or the device failed in one of them, or memory was wanting between two
-abbrev pub Wrote : Telling → Telling → ℕ → ℕ → List Put → Result (Unit {0}) PutFault → Type 0
+abbrev pub Wrote : Written → Written → ℕ → ℕ → List Put → Result (Unit {0}) PutFault → Type 0
 Wrote old new faults_before faults_after puts (Ok _) = Puts old new puts
 Wrote old new faults_before faults_after puts (Err Failed) = PutsPart old new puts × Rose faults_before faults_after
 Wrote old new faults_before faults_after puts (Err Memory) = PutsFirst old new puts

@@ -1,6 +1,6 @@
 ghost use Rattle.std.specs.Prelude.{◌≡◌, ◌≤◌, ◌<◌, ◌++◌, IfOk, OnOk, length};
 ghost use Rattle.streamscope.specs.Output.{check_puts, check_text, line_of_vertex};
-ghost use Rattle.streamscope.specs.Puts.{Wrote};
+ghost use Rattle.streamscope.specs.Puts.{Wrote, written};
 
 use ss_job::Job;
 use ss_outside::{Outputs, PutFault};
@@ -9,7 +9,7 @@ use std::alloc::{AllocError, Global};
 
 /// Puts the lines of a job to standard output.
 pub(crate) fn check<O: Outputs>(alloc: Global, outputs: &mut O, job: &Job) -> Result<(), PutFault>
-    ensures wrote { Wrote (O.bytes outputs.old) (O.bytes outputs.new) (O.count outputs.old) (O.count outputs.new) (check_puts job.now) result }
+    ensures wrote { Wrote (written (O.bytes outputs.old) (O.names outputs.old)) (written (O.bytes outputs.new) (O.names outputs.new)) (O.count outputs.old) (O.count outputs.new) (check_puts job.now) result }
     ensures counts { O.count outputs.old ≤ O.count outputs.new }
 {
     let Ok(text) = lines_of(alloc, job) else {

@@ -1,6 +1,7 @@
 ghost use Rattle.std.specs.Prelude.{◌≡◌, ◌≤◌, map, string_bytes};
 ghost use Rattle.ss_report.specs.FaultText.{fault_text};
 ghost use Rattle.ss_words.specs.Words.{command_of};
+ghost use Rattle.streamscope.specs.Puts.{written};
 ghost use Rattle.streamscope.specs.Ends.{Ends, TellsLine, seen};
 ghost use Rattle.streamscope.specs.FaultText.{NamesFile, line_of, status_of};
 
@@ -33,8 +34,8 @@ pub fn perform<I: Inputs, O: Outputs, D: Depot>(
     outside: Outside<I, O, D>,
 ) -> Done<I, O, D>
     ensures ends { Ends (command_of (map string_bytes words.now))
-        (seen (I.bytes outside.inputs) (O.bytes outside.outputs) (I.count outside.inputs) (O.count outside.outputs))
-        (seen (I.bytes result.outside.inputs) (O.bytes result.outside.outputs)
+        (seen (I.bytes outside.inputs) (written (O.bytes outside.outputs) (O.names outside.outputs)) (I.count outside.inputs) (O.count outside.outputs))
+        (seen (I.bytes result.outside.inputs) (written (O.bytes result.outside.outputs) (O.names result.outside.outputs))
         (I.count result.outside.inputs) (O.count result.outside.outputs))
         result.status }
     ensures depot { result.outside.depot ≡ outside.depot }
@@ -63,8 +64,8 @@ fn conclude<I: Inputs, O: Outputs>(
     outputs: &mut O,
 ) -> u8
     ensures { Ends (command_of (map string_bytes words.now))
-        (seen (I.bytes inputs.old) (O.bytes outputs.old) (I.count inputs.old) (O.count outputs.old))
-        (seen (I.bytes inputs.new) (O.bytes outputs.new) (I.count inputs.new) (O.count outputs.new))
+        (seen (I.bytes inputs.old) (written (O.bytes outputs.old) (O.names outputs.old)) (I.count inputs.old) (O.count outputs.old))
+        (seen (I.bytes inputs.new) (written (O.bytes outputs.new) (O.names outputs.new)) (I.count inputs.new) (O.count outputs.new))
         result }
 {
     // That bytes say one job or one fault is why each status comes exactly where the files call for it.
@@ -83,7 +84,7 @@ fn conclude<I: Inputs, O: Outputs>(
 pub(crate) fn refuse<O: Outputs>(alloc: Global, job_file: &str, outputs: &mut O, fault: Fault) -> u8
     requires { NamesFile fault }
     ensures status { result ≡ status_of fault }
-    ensures line { TellsLine (O.bytes outputs.old) (O.bytes outputs.new) (O.count outputs.old) (O.count outputs.new)
+    ensures line { TellsLine (written (O.bytes outputs.old) (O.names outputs.old)) (written (O.bytes outputs.new) (O.names outputs.new)) (O.count outputs.old) (O.count outputs.new)
         (line_of job_file.now fault) }
     ensures counts { O.count outputs.old ≤ O.count outputs.new }
 {
@@ -94,7 +95,7 @@ pub(crate) fn refuse<O: Outputs>(alloc: Global, job_file: &str, outputs: &mut O,
 
 /// Puts the fault's line to standard error, where it takes no memory or memory is left for it.
 fn tell<O: Outputs>(alloc: Global, outputs: &mut O, fault: &Report<'_>)
-    ensures line { TellsLine (O.bytes outputs.old) (O.bytes outputs.new) (O.count outputs.old) (O.count outputs.new)
+    ensures line { TellsLine (written (O.bytes outputs.old) (O.names outputs.old)) (written (O.bytes outputs.new) (O.names outputs.new)) (O.count outputs.old) (O.count outputs.new)
         (fault_text fault.now) }
     ensures counts { O.count outputs.old ≤ O.count outputs.new }
 {
@@ -106,7 +107,7 @@ fn tell<O: Outputs>(alloc: Global, outputs: &mut O, fault: &Report<'_>)
 
 /// Puts the line of a fault that names a file or a cause to standard error, where memory is left for it.
 fn tell_named<O: Outputs>(alloc: Global, outputs: &mut O, fault: &Report<'_>)
-    ensures line { TellsLine (O.bytes outputs.old) (O.bytes outputs.new) (O.count outputs.old) (O.count outputs.new)
+    ensures line { TellsLine (written (O.bytes outputs.old) (O.names outputs.old)) (written (O.bytes outputs.new) (O.names outputs.new)) (O.count outputs.old) (O.count outputs.new)
         (fault_text fault.now) }
     ensures counts { O.count outputs.old ≤ O.count outputs.new }
 {
@@ -119,7 +120,7 @@ fn tell_named<O: Outputs>(alloc: Global, outputs: &mut O, fault: &Report<'_>)
 
 /// Puts a line to standard error, as far as the device takes it.
 fn put_line<O: Outputs>(outputs: &mut O, line: &[u8])
-    ensures line { TellsLine (O.bytes outputs.old) (O.bytes outputs.new) (O.count outputs.old) (O.count outputs.new) line.now }
+    ensures line { TellsLine (written (O.bytes outputs.old) (O.names outputs.old)) (written (O.bytes outputs.new) (O.names outputs.new)) (O.count outputs.old) (O.count outputs.new) line.now }
     ensures counts { O.count outputs.old ≤ O.count outputs.new }
 {
     match outputs.put("!", line) {

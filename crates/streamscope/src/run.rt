@@ -1,5 +1,6 @@
 ghost use Rattle.std.specs.Prelude.{◌≡◌, ◌≤◌, OnOk, IfErr};
 ghost use Rattle.ss_outside.specs.Told.{Same};
+ghost use Rattle.streamscope.specs.Puts.{written};
 ghost use Rattle.streamscope.specs.Ends.{RunDone, RunStopped, seen};
 ghost use Rattle.streamscope.specs.Read.{fault_of_source};
 ghost use Rattle.streamscope.specs.Work.{is_operator_op, unbuilt};
@@ -20,11 +21,11 @@ pub(crate) fn run<I: Inputs, O: Outputs>(
     job: Job,
 ) -> Result<(), Fault>
     ensures done { OnOk result (RunDone job
-        (seen (I.bytes inputs.old) (O.bytes outputs.old) (I.count inputs.old) (O.count outputs.old))
-        (seen (I.bytes inputs.new) (O.bytes outputs.new) (I.count inputs.new) (O.count outputs.new))) }
+        (seen (I.bytes inputs.old) (written (O.bytes outputs.old) (O.names outputs.old)) (I.count inputs.old) (O.count outputs.old))
+        (seen (I.bytes inputs.new) (written (O.bytes outputs.new) (O.names outputs.new)) (I.count inputs.new) (O.count outputs.new))) }
     ensures fault { IfErr result (RunStopped job
-        (seen (I.bytes inputs.old) (O.bytes outputs.old) (I.count inputs.old) (O.count outputs.old))
-        (seen (I.bytes inputs.new) (O.bytes outputs.new) (I.count inputs.new) (O.count outputs.new))) }
+        (seen (I.bytes inputs.old) (written (O.bytes outputs.old) (O.names outputs.old)) (I.count inputs.old) (O.count outputs.old))
+        (seen (I.bytes inputs.new) (written (O.bytes outputs.new) (O.names outputs.new)) (I.count inputs.new) (O.count outputs.new))) }
     ensures told { Same (I.bytes inputs.old) (I.bytes inputs.new) }
     ensures input_counts { I.count inputs.old ≤ I.count inputs.new }
     ensures output_counts { O.count outputs.old ≤ O.count outputs.new }

@@ -1,6 +1,6 @@
 ghost use Rattle.std.specs.Prelude.{◌≡◌, ◌≤◌, ◌<◌, ◌++◌, IfOk, OnOk, length};
 ghost use Rattle.streamscope.specs.Output.{lists_of, shows, shows_sink, summary_line, summary_puts, summary_text};
-ghost use Rattle.streamscope.specs.Puts.{Wrote};
+ghost use Rattle.streamscope.specs.Puts.{Wrote, written};
 
 use crate::sinks::{sink_file, taken_by};
 use ss_elem::Element;
@@ -16,7 +16,7 @@ pub(crate) fn write_summary<O: Outputs>(
     job: &Job,
     streams: &[Vec<Element>],
 ) -> Result<(), PutFault>
-    ensures wrote { Wrote (O.bytes outputs.old) (O.bytes outputs.new) (O.count outputs.old) (O.count outputs.new)
+    ensures wrote { Wrote (written (O.bytes outputs.old) (O.names outputs.old)) (written (O.bytes outputs.new) (O.names outputs.new)) (O.count outputs.old) (O.count outputs.new)
         (summary_puts job.now (lists_of streams.now)) result }
     ensures counts { O.count outputs.old ≤ O.count outputs.new }
 {

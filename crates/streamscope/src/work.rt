@@ -1,6 +1,7 @@
 ghost use Rattle.std.specs.Prelude.{◌≤◌, OnOk, IfErr, Some};
 ghost use Rattle.ss_outside.specs.Told.{Same};
 ghost use Rattle.ss_words.specs.Answers.{command_text};
+ghost use Rattle.streamscope.specs.Puts.{written};
 ghost use Rattle.streamscope.specs.Ends.{EndsDone, Stopped, seen};
 
 use crate::check::check;
@@ -19,11 +20,11 @@ pub(crate) fn work<I: Inputs, O: Outputs>(
     outputs: &mut O,
 ) -> Result<(), Fault>
     ensures done { OnOk result (EndsDone (Some (command_text command.now))
-        (seen (I.bytes inputs.old) (O.bytes outputs.old) (I.count inputs.old) (O.count outputs.old))
-        (seen (I.bytes inputs.new) (O.bytes outputs.new) (I.count inputs.new) (O.count outputs.new))) }
+        (seen (I.bytes inputs.old) (written (O.bytes outputs.old) (O.names outputs.old)) (I.count inputs.old) (O.count outputs.old))
+        (seen (I.bytes inputs.new) (written (O.bytes outputs.new) (O.names outputs.new)) (I.count inputs.new) (O.count outputs.new))) }
     ensures fault { IfErr result (Stopped (Some (command_text command.now))
-        (seen (I.bytes inputs.old) (O.bytes outputs.old) (I.count inputs.old) (O.count outputs.old))
-        (seen (I.bytes inputs.new) (O.bytes outputs.new) (I.count inputs.new) (O.count outputs.new))) }
+        (seen (I.bytes inputs.old) (written (O.bytes outputs.old) (O.names outputs.old)) (I.count inputs.old) (O.count outputs.old))
+        (seen (I.bytes inputs.new) (written (O.bytes outputs.new) (O.names outputs.new)) (I.count inputs.new) (O.count outputs.new))) }
     ensures told { Same (I.bytes inputs.old) (I.bytes inputs.new) }
     ensures input_counts { I.count inputs.old ≤ I.count inputs.new }
     ensures output_counts { O.count outputs.old ≤ O.count outputs.new }

@@ -1,6 +1,6 @@
 ghost use Rattle.std.specs.Prelude.{◌≡◌, ◌≤◌, ◌<◌, length};
 ghost use Rattle.streamscope.specs.Output.{lists_of, puts_below, run_puts, sink_puts};
-ghost use Rattle.streamscope.specs.Puts.{Wrote, lines_to};
+ghost use Rattle.streamscope.specs.Puts.{Wrote, lines_to, written};
 
 use crate::sinks::{sink_file, taken_by};
 use crate::summary::write_summary;
@@ -17,7 +17,7 @@ pub(crate) fn write_run<O: Outputs>(
     job: &Job,
     streams: &[Vec<Element>],
 ) -> Result<(), PutFault>
-    ensures wrote { Wrote (O.bytes outputs.old) (O.bytes outputs.new) (O.count outputs.old) (O.count outputs.new)
+    ensures wrote { Wrote (written (O.bytes outputs.old) (O.names outputs.old)) (written (O.bytes outputs.new) (O.names outputs.new)) (O.count outputs.old) (O.count outputs.new)
         (run_puts job.now (lists_of streams.now)) result }
     ensures counts { O.count outputs.old ≤ O.count outputs.new }
 {
@@ -38,7 +38,7 @@ fn write_sinks<O: Outputs>(
     job: &Job,
     streams: &[Vec<Element>],
 ) -> Result<(), PutFault>
-    ensures wrote { Wrote (O.bytes outputs.old) (O.bytes outputs.new) (O.count outputs.old) (O.count outputs.new)
+    ensures wrote { Wrote (written (O.bytes outputs.old) (O.names outputs.old)) (written (O.bytes outputs.new) (O.names outputs.new)) (O.count outputs.old) (O.count outputs.new)
         (puts_below job.now (lists_of streams.now) (length job.now.vertices)) result }
     ensures counts { O.count outputs.old ≤ O.count outputs.new }
 {
@@ -60,7 +60,7 @@ fn write_sink<O: Outputs>(
     v: u32,
 ) -> Result<(), PutFault>
     requires { v < length job.now.vertices }
-    ensures wrote { Wrote (O.bytes outputs.old) (O.bytes outputs.new) (O.count outputs.old) (O.count outputs.new)
+    ensures wrote { Wrote (written (O.bytes outputs.old) (O.names outputs.old)) (written (O.bytes outputs.new) (O.names outputs.new)) (O.count outputs.old) (O.count outputs.new)
         (sink_puts job.now (lists_of streams.now) v) result }
     ensures counts { O.count outputs.old ≤ O.count outputs.new }
 {
@@ -76,7 +76,7 @@ fn write_sink<O: Outputs>(
 
 /// Puts a list's lines to a file, each element's by a put of its own.
 fn write_lines<O: Outputs>(outputs: &mut O, file: &str, list: &[Element]) -> Result<(), PutFault>
-    ensures wrote { Wrote (O.bytes outputs.old) (O.bytes outputs.new) (O.count outputs.old) (O.count outputs.new)
+    ensures wrote { Wrote (written (O.bytes outputs.old) (O.names outputs.old)) (written (O.bytes outputs.new) (O.names outputs.new)) (O.count outputs.old) (O.count outputs.new)
         (lines_to file.now list.now) result }
     ensures counts { O.count outputs.old ≤ O.count outputs.new }
 {

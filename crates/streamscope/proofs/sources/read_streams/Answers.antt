@@ -14,7 +14,7 @@ loop-v-preserved g c =
     let job = c.args.job.now in
     let old = g.I.Inputs.bytes c.args.inputs.now in
     let read = g.I.Inputs.bytes c.loop-v.inputs in
-    let inside : c.loop-v.v < length job.vertices = omega (arith, count_is job c.graph.result.now c.count-v-end.result c.graph.ensures.job c.graph.ensures.graph c.count-v-end.ensures.count) in
+    let inside : c.loop-v.v < length job.vertices = omega (arith, count_is job c.graph.result.now c.count-v-end.result c.graph.ensures.sound c.graph.ensures.graph c.count-v-end.ensures.count) in
     let (x, at) = item_at job.vertices c.loop-v.v inside in
     let is : IsStreamAt old job c.loop-v.v c.in-Ok.stream.items =
     subst (λ (told : Telling). IsStreamAt told job c.loop-v.v c.in-Ok.stream.items) (same_telling old read c.loop-v.invariant.told) c.in-Ok.ensures.stream in

@@ -5,3 +5,6 @@ use Rattle.ss_outside.proofs.mem_outputs.MemOutputs.first.Goals as goal
 
 pub returns-clause-added : goal.returns-clause-added
 returns-clause-added c = λ name. grind (arith, text_keys)
+
+pub returns-clause-names : goal.returns-clause-names
+returns-clause-names c = λ name other. grind (arith, text_keys)
