@@ -6,8 +6,6 @@ mod element;
 mod key;
 mod key_order;
 mod line_buf;
-#[cfg(test)]
-mod tests;
 mod validity;
 
 pub use bound::Bound;

@@ -12,6 +12,3 @@ mod row;
 pub use fault::{EventFault, EventWhy, EventsFault};
 pub use late::Late;
 pub use read::read_events;
-
-#[cfg(test)]
-mod tests;

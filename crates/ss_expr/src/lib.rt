@@ -25,6 +25,3 @@ pub use laws::{brackets_keep_the_tree, one_expression, printed_is_read};
 pub use reading::parse;
 pub use stream_operator::{Agg, Field, Spec};
 pub use value::Value;
-
-#[cfg(test)]
-mod tests;

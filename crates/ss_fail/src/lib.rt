@@ -12,6 +12,3 @@ pub use name::Name;
 pub use outcome::Outcome;
 pub use role::Role;
 pub use trigger::Trigger;
-
-#[cfg(test)]
-mod tests;

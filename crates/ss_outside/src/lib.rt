@@ -19,6 +19,3 @@ pub use mem_inputs::MemInputs;
 pub use mem_outputs::MemOutputs;
 pub use outputs::{Outputs, PutFault};
 pub use std::alloc::AllocError as Memory;
-
-#[cfg(test)]
-mod tests;

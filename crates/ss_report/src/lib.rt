@@ -13,6 +13,3 @@ pub use fault_lines::{fault_line, fixed_line};
 pub use ss_water::Memory;
 pub use state_lines::state_line;
 pub use state_row::StateRow;
-
-#[cfg(test)]
-mod tests;

@@ -10,8 +10,6 @@ mod member;
 mod opening;
 mod pass;
 mod plays;
-#[cfg(test)]
-mod tests;
 mod turns;
 mod view;
 

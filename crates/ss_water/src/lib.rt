@@ -7,6 +7,3 @@ mod node;
 pub use graph::Graph;
 pub use node::{Kind, Node};
 pub use std::alloc::AllocError as Memory;
-
-#[cfg(test)]
-mod tests;

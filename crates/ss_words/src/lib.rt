@@ -1,8 +1,6 @@
 //! The words of a command, as they stand after the program's name.
 #![tactic(auto)]
 
-#[cfg(test)]
-mod tests;
 mod words;
 
 pub use words::{Action, Command, WordsFault, command_of};

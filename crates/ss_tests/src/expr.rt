@@ -1,5 +1,7 @@
-use crate::{ExprFault, ExprWhy, KindFault, ParseFault, Value, ValueKind, check_kind, eval, parse};
 use ss_elem::{Event, Key};
+use ss_expr::{
+    ExprFault, ExprWhy, KindFault, ParseFault, Value, ValueKind, check_kind, eval, parse,
+};
 use std::alloc::{AllocError, Global};
 use std::test::Fail;
 

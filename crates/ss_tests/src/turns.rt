@@ -2,7 +2,7 @@
 ghost use Rattle.std.specs.Prelude.{◌≡◌, ℕ, ◌<◌, ◌≤◌, [], ◌∷◌, replicate, slice_set, Some, IfOk};
 ghost use Rattle.ss_turns.specs.Values.{IsPassOf};
 
-use crate::{Member, Pass, Turns};
+use ss_turns::{Member, Pass, Turns};
 use std::alloc::{AllocError, Global};
 use std::test::Fail;
 use std::thread::{Threads, join, yield_now};

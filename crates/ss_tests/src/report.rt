@@ -1,9 +1,9 @@
 ghost use Rattle.std.specs.Prelude.{◌<◌, ◌≤◌, length};
 
-use crate::{Fault, StateRow, fault_line, fixed_line, state_line, status_of};
 use ss_events::{EventFault, EventWhy};
 use ss_fail::{Name, Role};
 use ss_job::{FieldName, JobFault, JobWhy, Op};
+use ss_report::{Fault, StateRow, fault_line, fixed_line, state_line, status_of};
 use ss_water::Kind;
 use std::test::Fail;
 

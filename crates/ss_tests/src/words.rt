@@ -1,4 +1,4 @@
-use super::{Action, WordsFault, command_of};
+use ss_words::{Action, WordsFault, command_of};
 use std::alloc::{AllocError, Global};
 use std::test::Fail;
 

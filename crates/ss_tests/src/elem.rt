@@ -1,4 +1,4 @@
-use super::{
+use ss_elem::{
     BadKey, Bound, Element, Event, Key, LineBuf, NotNext, key_order_is_text_order, line, valid_next,
 };
 

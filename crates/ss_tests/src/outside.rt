@@ -1,4 +1,7 @@
-use super::*;
+use ss_outside::{
+    Depot, FileInputs, FileOutputs, InputFault, Inputs, MemDepot, MemInputs, MemOutputs, Outputs,
+    PutFault,
+};
 use std::test::Fail;
 
 /// Each put has the text `abc`. The second is the one that fails.

@@ -1,4 +1,4 @@
-use crate::Name;
+use ss_fail::Name;
 
 #[test]
 fn keeps_the_shortest_and_the_longest_name(rt: HostRuntime) {

@@ -1,4 +1,4 @@
-use crate::{Graph, Kind, Node};
+use ss_water::{Graph, Kind, Node};
 use std::test::Fail;
 
 #[test]

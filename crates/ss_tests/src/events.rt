@@ -1,5 +1,5 @@
-use super::{EventFault, EventWhy, EventsFault, Late, read_events};
 use ss_elem::{LineBuf, line};
+use ss_events::{EventFault, EventWhy, EventsFault, Late, read_events};
 use std::alloc::Global;
 use std::process::Abort;
 use std::test::Fail;
