@@ -1,21 +1,19 @@
 -- A document is read as the job that it says, or as its first fault.
-use Rattle.std.proofs.Common.{◌≡◌, ℕ, ◌+◌, ◌≤◌, Bool, true, false, not, ◌&&◌, ◌||◌, List, [], ◌∷◌, ◌++◌, cond, length, map, Result, Ok, Err, Option, Some, None, refl, sym, ap, ◌∙◌, inl, inr, append_assoc, append-nil, arith}
-use Rattle.std.proofs.lemmas.Bool.{cases_Bool, false≢true}
+use Rattle.std.proofs.Common.{◌≡◌, ℕ, ◌+◌, Bool, true, false, not, ◌&&◌, List, [], ◌∷◌, ◌++◌, cond, length, map, Ok, Option, Some, None, refl, append_assoc, append-nil, arith}
+use Rattle.std.proofs.lemmas.Bool.{false≢true}
 use Rattle.std.proofs.lemmas.List.{length-append}
-use Rattle.std.specs.Prelude.{⊤, nat_lt, unwrap_or, option_and_then}
+use Rattle.std.specs.Prelude.{nat_lt, unwrap_or, option_and_then}
 use Rattle.std.specs.List.{list_any}
 use Rattle.std.specs.Option.{option_map_or}
 use Rattle.toml.specs.Data.{Data, string, integer, float, boolean, datetime, array, table, Items, no_items, item, Members, no_members, get_member, as_integer, as_array, as_table}
 use Rattle.ss_job.specs.Document.{has_only}
-use Rattle.ss_job.specs.Faults.{unless, whole, at, are_tables, item_count, limit_faults, limits_faults, items_faults, array_faults, vertices_faults, unread_faults, graph_faults, faults, job_of}
+use Rattle.ss_job.specs.Faults.{whole, at, are_tables, item_count, limit_faults, limits_faults, array_faults, vertices_faults, unread_faults, graph_faults, faults, job_of}
 use Rattle.ss_job.specs.Fields.{◌>>=◌, ◌>>◌, refuse, required, needed, optional, in_range_or, optional_number, optional_integer}
 use Rattle.ss_job.specs.Format.{key_of, may_have, number, document_keys, keys_of, limit_fields, most_vertices}
 use Rattle.ss_job.specs.JobIn.{tables_in, limits_in, role_in, nodes_in, job_in}
 use Rattle.ss_job.specs.Lookup.{magnitude, number_in, tables_of}
 use Rattle.ss_job.specs.Reading.{limits_from, limits_or, limits_of, as_tables, items_of, draft_at, drafts_after, read_streams, sound_graph, job_with, parts_of, read_document}
-use Rattle.ss_job.specs.Vertices.{DraftText, empty_draft}
 use Rattle.ss_job.specs.Wrong.{when, is_sink, number_faults, field_faults, unknown_faults}
-use Rattle.ss_job.specs.declared.fault.JobFault.{JobFault}
 use Rattle.ss_job.specs.declared.fault.JobWhy.{JobWhy}
 use Rattle.ss_job.specs.declared.fault.JobWhy.TheVariants.{WrongKind, UnknownField, Unread, NoSink, TooManyVertices}
 use Rattle.ss_job.specs.declared.field_name.FieldName.{FieldName}

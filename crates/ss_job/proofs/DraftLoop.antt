@@ -1,13 +1,11 @@
 -- The loop that reads the vertices.
-use Rattle.std.proofs.Common.{◌≡◌, ℕ, ◌+◌, ◌<◌, ◌≤◌, List, length, drop, get_or, drop_of_length-le, Result, Ok, Err, refl, sym, ap, ◌∙◌}
+use Rattle.std.proofs.Common.{◌≡◌, ℕ, ◌+◌, ◌<◌, ◌≤◌, List, length, drop, get_or, drop_of_length-le, Ok}
 use Rattle.toml.proofs.Views.{items_view-drop}
 use Rattle.toml.specs.View.{view, items_view}
 use Rattle.toml.specs.declared.value.Value.{Value}
 use Rattle.ss_job.specs.Answers.{FailsAt}
-use Rattle.ss_job.specs.Fields.{◌>>=◌}
 use Rattle.ss_job.specs.Reading.{draft_at, drafts_after}
 use Rattle.ss_job.specs.Vertices.{DraftText}
-use Rattle.ss_job.specs.declared.fault.JobFault.{JobFault}
 use Rattle.ss_job.specs.declared.fault.JobsFault.{JobsFault}
 use Rattle.ss_job.specs.declared.fault.JobsFault.TheVariants.{At, Memory}
 

@@ -1,15 +1,15 @@
 -- What the vertices before one have made of the job, and what their tables say.
-use Rattle.std.proofs.Common.{◌≡◌, ℕ, ◌+◌, ◌<◌, zero, suc, Bool, true, false, not, ◌&&◌, ◌||◌, cond, List, [], ◌∷◌, ◌++◌, length, map, Option, Some, None, bytes_eq, refl, sym, ap, ◌∙◌, arith, append_assoc, rules, add-zero}
+use Rattle.std.proofs.Common.{◌≡◌, ℕ, ◌<◌, zero, suc, Bool, true, false, not, ◌&&◌, ◌||◌, cond, List, [], ◌∷◌, ◌++◌, length, map, Option, Some, None, bytes_eq, refl, sym, ap, ◌∙◌, arith, append_assoc}
 use Rattle.std.proofs.lemmas.Bool.{cases_Bool}
 use Rattle.std.proofs.Common.{inl, inr, append-nil}
 use Rattle.std.proofs.lemmas.Slice.Eq.{bytes_eq-Decides}
 use Rattle.std.proofs.lemmas.List.{map-append}
-use Rattle.std.specs.Prelude.{codes, unwrap_or, option_map, option_and_then, slice_get, filter}
-use Rattle.std.specs.List.{list_any, position}
+use Rattle.std.specs.Prelude.{codes, unwrap_or, option_and_then, filter}
+use Rattle.std.specs.List.{list_any}
 use Rattle.std.specs.Option.{option_map_or}
 use Rattle.toml.specs.Data.{Members}
 use Rattle.ss_job.specs.JobIn.{nodes_in}
-use Rattle.ss_job.specs.JobIn.{op_in, op_or_source, kind_of, role_in, node_in, nodes_after, vertex_in, vertex_with, file_in}
+use Rattle.ss_job.specs.JobIn.{op_or_source, kind_of, role_in, node_in, nodes_after, vertex_in, vertex_with, file_in}
 use Rattle.ss_job.specs.Lookup.{text_in, op_named}
 use Rattle.ss_job.specs.Vertices.{DraftText, writes_to}
 use Rattle.ss_job.specs.Wrong.{is_sink, is_sink_at, names_in, sink_files, is_among}
@@ -17,7 +17,6 @@ use Rattle.ss_job.specs.declared.field_name.FieldName.TheVariants.{Name, Op, Fil
 use Rattle.ss_job.specs.declared.op.Op.{Op as Operator}
 use Rattle.ss_job.specs.declared.op.Op.TheVariants as op
 use Rattle.ss_water.specs.Graph as graph
-use Rattle.ss_water.specs.declared.node.Node.{Node}
 
 -- what these tables have made of the job
 abbrev pub draft_in : List Members → DraftText

@@ -1,8 +1,8 @@
 -- Each field is read as what the format says of it.
-use Rattle.std.proofs.Common.{◌≡◌, ℕ, ℤ, ◌*◌, ◌^◌, Bool, true, false, not, ◌&&◌, List, [], ◌∷◌, ◌++◌, cond, map, Result, Ok, Err, Option, Some, None, refl, sym, ap, ◌∙◌}
-use Rattle.std.specs.Prelude.{⊤, is_none, unwrap_or, option_map, option_and_then, codes}
+use Rattle.std.proofs.Common.{◌≡◌, ℕ, ℤ, ◌*◌, ◌^◌, Bool, true, false, not, ◌&&◌, List, [], cond, Result, Ok, Err, Option, Some, None, refl}
+use Rattle.std.specs.Prelude.{unwrap_or, option_map, option_and_then, codes}
 use Rattle.std.specs.Option.{option_map_or}
-use Rattle.toml.specs.Data.{Data, string, integer, float, boolean, datetime, array, table, Items, Members, get_member, as_str, as_integer, as_array, as_table}
+use Rattle.toml.specs.Data.{Data, string, integer, float, boolean, datetime, array, table, Members, get_member, as_str, as_integer}
 use Rattle.ss_events.specs.declared.late.Late.TheVariants.{Refuse}
 use Rattle.ss_expr.specs.Kinds.{kind_fault}
 use Rattle.ss_expr.specs.Reading.{expression_of}
@@ -14,15 +14,14 @@ use Rattle.ss_expr.specs.declared.kind.ValueKind.TheVariants.{Truth, Num}
 use Rattle.ss_expr.specs.declared.stream_operator.Agg.TheVariants as agg
 use Rattle.ss_expr.specs.declared.stream_operator.Field.TheVariants as value
 use Rattle.ss_job.specs.Faults.{unless}
-use Rattle.ss_job.specs.Fields.{◌>>=◌, refuse, required, needed, optional, needed_text, optional_text, needed_integer, optional_integer, in_range, in_range_or, needed_number, optional_number, whole_hops, size_of, meaning_or, late_of, value_of, replay_of, agg_of, of_kind, if_kind, expression_with, test_with, test_of, row_number_of}
-use Rattle.ss_job.specs.Format.{key_of, has, may_have, text, number, texts}
-use Rattle.ss_job.specs.JobIn.{policy_in}
+use Rattle.ss_job.specs.Fields.{◌>>=◌, required, needed, optional, needed_text, optional_text, needed_integer, optional_integer, in_range, in_range_or, needed_number, optional_number, whole_hops, size_of, meaning_or, late_of, value_of, replay_of, agg_of, of_kind, if_kind, expression_with, test_with, test_of, row_number_of}
+use Rattle.ss_job.specs.Format.{key_of, has, may_have, text, number}
 use Rattle.ss_job.specs.Lookup.{magnitude, number_in, word_in, tree_in, tree_of, tree_or, text_in, late_named, agg_named, value_named, replay_named}
-use Rattle.ss_job.specs.Wrong.{when, range_faults, is_within, is_multiple, out_of_range, size_faults, word_faults, kind_faults, tree_faults, expression_faults, said_faults, field_faults, value_faults, number_faults}
+use Rattle.ss_job.specs.Wrong.{when, range_faults, is_within, is_multiple, out_of_range, size_faults, kind_faults, tree_faults, expression_faults, said_faults, field_faults, value_faults}
 use Rattle.ss_job.specs.declared.fault.JobWhy.{JobWhy}
 use Rattle.ss_job.specs.declared.fault.JobWhy.TheVariants.{BadWord}
 use Rattle.ss_job.specs.declared.field_name.FieldName.{FieldName}
-use Rattle.ss_job.specs.declared.field_name.FieldName.TheVariants.{MaxElements, CollectEvery, Late, Where, A, B, Size, Hop, Agg, Of, Recover, Every, Replicas}
+use Rattle.ss_job.specs.declared.field_name.FieldName.TheVariants.{Late, Where, A, B, Size, Hop, Agg, Of, Recover, Every, Replicas}
 use Rattle.ss_job.specs.declared.op.Op.{Op}
 use Rattle.ss_job.proofs.Readings.{Reads, done, found, made}
 

@@ -1,30 +1,24 @@
 -- The nodes of vertices with which nothing is wrong make a graph.
-use Rattle.std.proofs.Common.{◌≡◌, ℕ, ◌+◌, ◌-◌, ◌<◌, ◌≤◌, Bool, true, false, not, ◌&&◌, zero, suc, List, [], ◌∷◌, ◌++◌, length, map, replicate, get_or, take, Result, Ok, Err, Option, Some, None, refl, sym, ap, ◌∙◌, append_assoc, arith, inl, inr}
-use Rattle.std.proofs.lemmas.Bool.{cases_Bool, false≢true, ltb-false}
+use Rattle.std.proofs.Common.{◌≡◌, ℕ, ◌+◌, ◌-◌, ◌<◌, ◌≤◌, Bool, true, false, not, ◌&&◌, zero, suc, List, [], ◌∷◌, ◌++◌, length, map, replicate, get_or, Ok, Some, refl, sym, ap, ◌∙◌, append_assoc, arith}
+use Rattle.std.proofs.lemmas.Bool.{false≢true}
 use Rattle.std.proofs.lemmas.List.{length-map, length-append, get_or_append_left}
-use Rattle.std.specs.Prelude.{nat_lt, slice_get, slice_index, unwrap_or, ⊤}
-use Rattle.std.specs.Option.{option_map_or}
+use Rattle.std.specs.Prelude.{slice_get, unwrap_or}
 use Rattle.toml.specs.Data.{Items, no_items, item, Members}
-use Rattle.std.specs.List.{list_any}
-use Rattle.ss_job.specs.Faults.{unless, at, whole, graph_faults, are_tables, item_count, vertex_faults, vertices_faults, unread_faults}
+use Rattle.ss_job.specs.Faults.{unless, at, whole, item_count, vertex_faults, vertices_faults, unread_faults}
 use Rattle.ss_job.specs.Format.{most_inputs}
 use Rattle.ss_job.specs.JobIn.{op_or_source, kind_of, inputs_in, node_in, nodes_after, nodes_in}
-use Rattle.ss_job.specs.Lookup.{texts_in, texts_of, tables_of}
-use Rattle.ss_job.specs.Fields.{◌>>=◌, ◌>>◌, refuse}
-use Rattle.ss_job.specs.Reading.{drafts_after, read_streams, sound_graph}
-use Rattle.ss_job.specs.Vertices.{DraftText, empty_draft}
-use Rattle.ss_job.specs.Wrong.{when, is_sink, is_sink_at, number_of}
-use Rattle.ss_job.specs.declared.fault.JobFault.{JobFault}
-use Rattle.ss_job.specs.declared.fault.JobWhy.TheVariants.{Unread, NoSink}
+use Rattle.ss_job.specs.Lookup.{texts_in, tables_of}
+use Rattle.ss_job.specs.Wrong.{when, is_sink_at, number_of}
+use Rattle.ss_job.specs.declared.fault.JobWhy.TheVariants.{Unread}
 use Rattle.ss_job.specs.declared.field_name.FieldName.TheVariants.{Inputs}
 use Rattle.ss_job.specs.declared.op.Op.{Op}
 use Rattle.ss_job.specs.declared.op.Op.TheVariants as op
 use Rattle.ss_water.specs.Graph.{IsGraph, IsLinkedAt, is_stream, is_read}
 use Rattle.ss_water.specs.declared.node.Kind.TheVariants as kind
 use Rattle.ss_water.specs.declared.node.Node.{Node}
-use Rattle.ss_job.proofs.DocumentReadings.{drafts_reads, graph_reads, nothing_in, nothing_mapped}
-use Rattle.ss_job.proofs.Earlier.{draft_in, streams_within}
-use Rattle.ss_job.proofs.SoundInputs.{SoundVertex, sound_vertex, SoundInputs, sound_inputs, IsEarlierStream, sound_numbers, most_inputs-few, inputs-few}
+use Rattle.ss_job.proofs.DocumentReadings.{nothing_in, nothing_mapped}
+use Rattle.ss_job.proofs.Earlier.{streams_within}
+use Rattle.ss_job.proofs.SoundInputs.{sound_vertex, sound_inputs, sound_numbers, most_inputs-few, inputs-few}
 
 -- ---- where a node stands
 

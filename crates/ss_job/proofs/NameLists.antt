@@ -1,7 +1,6 @@
 -- The names of an index, and the keys of its set.
-use Rattle.std.proofs.Common.{◌≡◌, ℕ, Bool, true, false, not, ◌||◌, cond, List, [], ◌∷◌, ◌++◌, length, map, Option, Some, None, String, Global, bytes_eq, string_bytes, refl, sym, ap, ◌∙◌}
+use Rattle.std.proofs.Common.{◌≡◌, ℕ, Bool, false, not, ◌||◌, cond, List, [], ◌∷◌, ◌++◌, map, String, Global, bytes_eq, string_bytes, refl, ap, ◌∙◌}
 use Rattle.std.proofs.lemmas.List.{length-map, map-append}
-use Rattle.std.specs.Prelude.{nat_lt}
 use Rattle.std.specs.List.{list_any, position, prefix_len}
 use Rattle.std.specs.String.{string_eq}
 use Rattle.ss_job.specs.Wrong.{is_among}

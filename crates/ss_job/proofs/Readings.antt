@@ -1,8 +1,8 @@
 -- What a plain reader gives: a value, unless something is wrong, and then the first of it.
-use Rattle.std.proofs.Common.{◌≡◌, Bool, true, false, List, [], ◌∷◌, ◌++◌, map, Result, Ok, Err, Option, Some, None, refl, sym, ap, ◌∙◌, append_assoc}
-use Rattle.std.specs.Prelude.{⊤, is_none, unwrap_or}
+use Rattle.std.proofs.Common.{◌≡◌, Bool, true, false, List, [], ◌∷◌, ◌++◌, map, Result, Ok, Option, Some, None, refl, append_assoc}
+use Rattle.std.specs.Prelude.{is_none, unwrap_or}
 use Rattle.ss_job.specs.Faults.{unless}
-use Rattle.ss_job.specs.Fields.{◌>>=◌, ◌>>◌, refuse, required}
+use Rattle.ss_job.specs.Fields.{◌>>=◌, refuse, required}
 use Rattle.ss_job.specs.Reading.{faulty}
 use Rattle.ss_job.specs.Wrong.{when}
 use Rattle.ss_job.specs.declared.fault.JobFault.{JobFault}

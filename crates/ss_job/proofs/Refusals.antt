@@ -1,5 +1,5 @@
 -- What is answered for a document that says no job.
-use Rattle.std.proofs.Common.{◌≡◌, ℕ, List, Err, sym, ◌∙◌, inr}
+use Rattle.std.proofs.Common.{ℕ, List, sym, ◌∙◌, inr}
 use Rattle.toml.specs.Data.{Members}
 use Rattle.ss_job.proofs.DocumentReadings.{read_document-job_of}
 use Rattle.ss_job.specs.Answers.{FailsAt}

@@ -1,10 +1,10 @@
 -- What holds of the fields of a table with which nothing is wrong.
-use Rattle.std.proofs.Common.{◌≡◌, ℕ, ℤ, pos, negsuc, ◌*◌, ◌%◌, ◌==◌, ◌^◌, ◌<◌, ◌≤◌, Bool, true, false, not, ◌&&◌, zero, suc, List, [], ◌∷◌, ◌++◌, Result, Ok, Err, Option, Some, None, IfSome, cond, refl, sym, ap, ◌∙◌, inl, inr, arith}
-use Rattle.std.proofs.lemmas.Bool.{cases_Bool, and_parts, leb-true, false≢true}
+use Rattle.std.proofs.Common.{◌≡◌, ℕ, ℤ, pos, negsuc, ◌*◌, ◌%◌, ◌^◌, Bool, true, false, ◌&&◌, zero, suc, List, [], ◌∷◌, Result, Ok, Err, Option, Some, None, cond, refl}
+use Rattle.std.proofs.lemmas.Bool.{and_parts, leb-true, false≢true}
 use Rattle.std.proofs.lemmas.Bool.Decides.{Decides-eqb}
-use Rattle.std.specs.Prelude.{nat_le, codes, unwrap_or, option_map, option_and_then, flat_map, slice_get}
+use Rattle.std.specs.Prelude.{nat_le, codes, option_and_then, slice_get}
 use Rattle.std.specs.Option.{option_map_or}
-use Rattle.toml.specs.Data.{Data, string, integer, float, boolean, datetime, array, table, Members, get_member, as_str, as_integer}
+use Rattle.toml.specs.Data.{Data, string, integer, float, boolean, datetime, array, table, Members, as_str, as_integer}
 use Rattle.ss_expr.specs.Kinds.{HasKind, kind_fault, kind_of, misfit, same_kind}
 use Rattle.ss_expr.specs.Reading.{expression_of}
 use Rattle.ss_expr.specs.Tree.{Tree, leaf, place}
@@ -12,13 +12,13 @@ use Rattle.ss_expr.specs.declared.atom.Atom.TheVariants as atom
 use Rattle.ss_expr.specs.declared.fault.ExprFault.{ExprFault}
 use Rattle.ss_expr.specs.declared.kind.ValueKind.{ValueKind}
 use Rattle.ss_expr.specs.declared.kind.ValueKind.TheVariants.{Num, Text, Truth}
-use Rattle.ss_job.specs.Format.{Field, key_of, has, may_have, text, number, fields_of}
-use Rattle.ss_job.specs.Lookup.{magnitude, number_in, text_in, tree_in, tree_of, tree_or}
+use Rattle.ss_job.specs.Format.{Field, has, may_have, text, number}
+use Rattle.ss_job.specs.Lookup.{magnitude, tree_of, tree_or}
 use Rattle.ss_job.specs.Sound.{IsFrom, IsWindow}
-use Rattle.ss_job.specs.Wrong.{when, is_within, is_multiple, out_of_range, range_faults, size_faults, kind_faults, tree_faults, expression_faults, said_faults, field_faults, value_faults}
+use Rattle.ss_job.specs.Wrong.{is_within, is_multiple, out_of_range, range_faults, size_faults, kind_faults, tree_faults, expression_faults, said_faults, field_faults, value_faults}
 use Rattle.ss_job.specs.declared.fault.JobWhy.{JobWhy}
 use Rattle.ss_job.specs.declared.field_name.FieldName.{FieldName}
-use Rattle.ss_job.specs.declared.field_name.FieldName.TheVariants.{Size, Hop, Where, A, B}
+use Rattle.ss_job.specs.declared.field_name.FieldName.TheVariants.{Size}
 use Rattle.ss_job.specs.declared.op.Op.{Op}
 use Rattle.ss_job.proofs.DocumentReadings.{nothing_in}
 use Rattle.ss_job.proofs.VertexReadings.{wrong_in, none_wrong}

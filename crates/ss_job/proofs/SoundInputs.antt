@@ -1,18 +1,17 @@
 -- What holds of the table of a vertex with which nothing is wrong.
-use Rattle.std.proofs.Common.{◌≡◌, ℕ, ◌<◌, ◌≤◌, Bool, true, false, not, ◌&&◌, zero, suc, List, [], ◌∷◌, ◌++◌, length, map, drop, get_or, Option, Some, None, bytes_eq, refl, sym, ap, ◌∙◌, inl, inr, arith}
+use Rattle.std.proofs.Common.{◌≡◌, ℕ, ◌<◌, ◌≤◌, Bool, true, false, not, zero, suc, List, [], ◌∷◌, length, map, drop, get_or, Option, Some, None, bytes_eq, refl, inl, inr, arith}
 use Rattle.std.proofs.lemmas.Bool.{cases_Bool, and_parts, leb-true}
 use Rattle.std.proofs.lemmas.List.{length-map}
 use Rattle.std.proofs.lemmas.List.Quantifiers.{position-Some}
-use Rattle.std.specs.Prelude.{nat_le, unwrap_or, option_and_then, flat_map, slice_get}
+use Rattle.std.specs.Prelude.{nat_le, unwrap_or, option_and_then, flat_map}
 use Rattle.std.specs.Option.{option_map_or}
-use Rattle.toml.specs.Data.{Data, string, integer, float, boolean, datetime, array, table, Items, Members, get_member, as_array}
+use Rattle.toml.specs.Data.{Data, string, integer, float, boolean, datetime, array, table, Members, get_member, as_array}
 use Rattle.ss_job.specs.Document.{has_only}
 use Rattle.ss_job.specs.Faults.{called_faults, rest_faults, vertex_faults}
-use Rattle.ss_job.specs.Format.{Field, key_of, has, texts, are_texts, name_field, op_field, inner_fields, fields_of, vertex_keys, most_inputs}
-use Rattle.ss_job.specs.JobIn.{op_in, op_or_source, inputs_in}
+use Rattle.ss_job.specs.Format.{Field, key_of, has, texts, are_texts, name_field, op_field, fields_of, vertex_keys, most_inputs}
+use Rattle.ss_job.specs.JobIn.{op_in, op_or_source}
 use Rattle.ss_job.specs.Lookup.{text_in, texts_in, texts_of}
 use Rattle.ss_job.specs.Wrong.{when, names_in, number_of, input_faults, inputs_faults, is_sink_at, has_input_count, said_faults, field_faults, unknown_faults, value_faults}
-use Rattle.ss_job.specs.declared.fault.JobWhy.{JobWhy}
 use Rattle.ss_job.specs.declared.fault.JobWhy.TheVariants.{UnknownField, WrongInputCount, LaterInput, SinkAsInput}
 use Rattle.ss_job.specs.declared.field_name.FieldName.TheVariants.{Name, Inputs}
 use Rattle.ss_job.specs.declared.op.Op.{Op}

@@ -1,11 +1,10 @@
 -- What a document with which nothing is wrong says is a sound job.
-use Rattle.std.proofs.Common.{◌≡◌, ℕ, ◌^◌, ◌<◌, ◌≤◌, Bool, true, false, not, ◌&&◌, ◌||◌, zero, suc, List, [], ◌∷◌, ◌++◌, length, map, Option, Some, None, IfSome, Ok, refl, sym, ap, ◌∙◌, arith}
+use Rattle.std.proofs.Common.{◌≡◌, ℕ, ◌^◌, ◌≤◌, true, not, zero, suc, List, [], ◌∷◌, ◌++◌, length, map, Option, Some, None, IfSome, Ok, refl, sym, ◌∙◌, arith}
 use Rattle.std.proofs.lemmas.Bool.{and_parts, leb-true, ltb-false, false≢true}
 use Rattle.std.proofs.lemmas.List.{length-map}
 use Rattle.std.proofs.lemmas.Option.{slice_get-map}
-use Rattle.std.specs.Prelude.{nat_le, nat_lt, codes, unwrap_or, option_map, option_and_then, slice_get}
+use Rattle.std.specs.Prelude.{nat_le, codes, unwrap_or, option_map, option_and_then, slice_get}
 use Rattle.std.specs.List.{list_any}
-use Rattle.std.specs.Option.{option_map_or}
 use Rattle.toml.specs.Data.{Data, string, integer, float, boolean, datetime, array, table, Items, Members, no_members, get_member, as_table}
 use Rattle.ss_expr.specs.Kinds.{HasKind}
 use Rattle.ss_expr.specs.declared.kind.ValueKind.TheVariants.{Truth, Num}
@@ -13,15 +12,14 @@ use Rattle.ss_fail.specs.declared.role.Role.{Role}
 use Rattle.ss_job.specs.Document.{has_only}
 use Rattle.ss_job.specs.Faults.{at, whole, item_count, vertex_faults, limit_faults, limits_faults, array_faults, vertices_faults, unread_faults, graph_faults, faults, job_of}
 use Rattle.ss_job.specs.Format.{key_of, has, may_have, text, number, fields_of, vertex_keys, document_keys, keys_of, limit_fields, fewest_inputs, most_inputs}
-use Rattle.ss_job.specs.JobIn.{op_or_source, kind_of, policy_in, select_in, window_in, vertex_in, vertex_with, role_in, node_in, nodes_after, nodes_in, inputs_in, tables_in, limits_in, job_in}
+use Rattle.ss_job.specs.JobIn.{op_or_source, policy_in, select_in, window_in, vertex_in, vertex_with, role_in, node_in, nodes_after, nodes_in, inputs_in, tables_in, limits_in, job_in}
 use Rattle.ss_job.specs.JobText.{VertexText, JobText, op_of_vertex}
-use Rattle.ss_job.specs.Lookup.{number_in, text_in, texts_in, tree_in, tree_of, tables_of}
+use Rattle.ss_job.specs.Lookup.{number_in, texts_in, tree_of}
 use Rattle.ss_job.specs.Reading.{faulty, parts_of, drafts_after, sound_graph, job_with, read_document}
 use Rattle.ss_job.specs.Vertices.{DraftText, empty_draft}
 use Rattle.ss_job.specs.declared.limits.Limits.{Limits}
 use Rattle.ss_job.specs.Sound.{IsFrom, IsPolicy, IsWindow, IsSpec, IsVertexText, IsVertex, IsJob}
 use Rattle.ss_job.specs.Wrong.{when, is_sink, number_of, has_input_count, field_faults, unknown_faults, value_faults}
-use Rattle.ss_job.specs.declared.fault.JobWhy.{JobWhy}
 use Rattle.ss_job.specs.declared.fault.JobWhy.TheVariants.{NoSink}
 use Rattle.ss_job.specs.declared.field_name.FieldName.TheVariants.{Job, Vertex, MaxElements, CollectEvery, Inputs, Where, A, B, Size, Hop, Every, Replicas}
 use Rattle.ss_job.specs.declared.op.Op.{Op}
@@ -31,7 +29,7 @@ use Rattle.ss_job.proofs.Absent.{get_member-absent}
 use Rattle.ss_job.proofs.DocumentReadings.{limit_wrong, items_in, items_in-sound, tables_in-items, nothing_in, nothing_mapped, read_document-job_of}
 use Rattle.ss_job.proofs.Graphs.{length-nodes_after, length-tables_of, sound_graph-IsGraph, sound_reading}
 use Rattle.ss_job.proofs.SoundFields.{wrong_at, range_sound, size_from, needed_number_sound, optional_number_sound, optional_text_sound, expression_sound, default_a_kind, default_b_kind}
-use Rattle.ss_job.proofs.SoundInputs.{SoundVertex, sound_vertex, SoundInputs, sound_inputs, inputs-few}
+use Rattle.ss_job.proofs.SoundInputs.{sound_vertex, sound_inputs}
 use Rattle.ss_job.proofs.VertexReadings.{wrong_in, none_wrong}
 
 -- ---- the fields of a vertex
@@ -49,12 +47,11 @@ module _ (o : Op) (earlier : List Members) (t : Members) (sound : wrong_in o ear
   policy_sound e r every replicas = record { every = every_sound e every; replicas = replicas_sound r replicas }
 
 select_sound : (earlier : List Members) (t : Members) → wrong_in op.Select earlier t (fields_of op.Select) ≡ [] → IsSpec (select_in t)
-select_sound earlier t sound =
-    (
-      optional_text_sound (λ words. IfSome (option_map tree_of words) (λ e. HasKind e Truth)) Where (value_faults Where op.Select earlier t) (λ words none. expression_sound Where Truth words none) tt (get_member (key_of Where) t) (wrong_at op.Select earlier t (fields_of op.Select) 1 (may_have Where text) refl sound),
-      optional_text_sound (λ words. HasKind (tree_of (unwrap_or words (codes "a"))) Num) A (value_faults A op.Select earlier t) (λ words none. expression_sound A Num words none) default_a_kind (get_member (key_of A) t) (wrong_at op.Select earlier t (fields_of op.Select) 2 (may_have A text) refl sound),
-      optional_text_sound (λ words. HasKind (tree_of (unwrap_or words (codes "b"))) Num) B (value_faults B op.Select earlier t) (λ words none. expression_sound B Num words none) default_b_kind (get_member (key_of B) t) (wrong_at op.Select earlier t (fields_of op.Select) 3 (may_have B text) refl sound)
-    )
+select_sound earlier t sound = (
+  optional_text_sound (λ words. IfSome (option_map tree_of words) (λ e. HasKind e Truth)) Where (value_faults Where op.Select earlier t) (λ words none. expression_sound Where Truth words none) tt (get_member (key_of Where) t) (wrong_at op.Select earlier t (fields_of op.Select) 1 (may_have Where text) refl sound),
+  optional_text_sound (λ words. HasKind (tree_of (unwrap_or words (codes "a"))) Num) A (value_faults A op.Select earlier t) (λ words none. expression_sound A Num words none) default_a_kind (get_member (key_of A) t) (wrong_at op.Select earlier t (fields_of op.Select) 2 (may_have A text) refl sound),
+  optional_text_sound (λ words. HasKind (tree_of (unwrap_or words (codes "b"))) Num) B (value_faults B op.Select earlier t) (λ words none. expression_sound B Num words none) default_b_kind (get_member (key_of B) t) (wrong_at op.Select earlier t (fields_of op.Select) 3 (may_have B text) refl sound),
+)
 
 window_sound : (earlier : List Members) (t : Members) → wrong_in op.Window earlier t (fields_of op.Window) ≡ [] → IsSpec (window_in t)
 window_sound earlier t sound =
@@ -147,10 +144,9 @@ limits_from_sound limits sound =
     let first = field_faults (limit_wrong MaxElements limits) limits (may_have MaxElements number) in
     let second = field_faults (limit_wrong CollectEvery limits) limits (may_have CollectEvery number) in
     let (max_elements, rest) = nothing_in first (second ++ []) (nothing_in (unknown_faults (keys_of limit_fields) limits) (first ++ (second ++ [])) sound).1 in
-    let (collect_every, _) = nothing_in second [] rest in
-    (
+    let (collect_every, _) = nothing_in second [] rest in (
       optional_number_sound (IsFrom 1 131072) MaxElements (limit_wrong MaxElements limits) (range_sound MaxElements 1 131072) (get_member (key_of MaxElements) limits) 131072 (record { least_of = omega arith; most_of = omega arith }) max_elements,
-      optional_number_sound (IsFrom 64 131072) CollectEvery (limit_wrong CollectEvery limits) (range_sound CollectEvery 64 131072) (get_member (key_of CollectEvery) limits) 256 (record { least_of = omega arith; most_of = omega arith }) collect_every
+      optional_number_sound (IsFrom 64 131072) CollectEvery (limit_wrong CollectEvery limits) (range_sound CollectEvery 64 131072) (get_member (key_of CollectEvery) limits) 256 (record { least_of = omega arith; most_of = omega arith }) collect_every,
     )
 
 limits_sound : (document : Members) → limits_faults (get_member (key_of Job) document) ≡ [] → limits_are (limits_in document)

@@ -1,5 +1,5 @@
 -- The loop that tests that each stream is read.
-use Rattle.std.proofs.Common.{◌≡◌, ℕ, ◌+◌, ◌<◌, ◌≤◌, true, false, not, ◌&&◌, List, [], ◌∷◌, length, drop, get_or, drop_of_length-le, Ok, Err, refl, sym, ap, ◌∙◌}
+use Rattle.std.proofs.Common.{◌≡◌, ℕ, ◌+◌, ◌<◌, ◌≤◌, true, false, not, ◌&&◌, List, [], length, drop, drop_of_length-le, Ok, Err}
 use Rattle.std.proofs.lemmas.List.{drop_more}
 use Rattle.ss_job.specs.Faults.{at}
 use Rattle.ss_job.specs.Reading.{read_streams}

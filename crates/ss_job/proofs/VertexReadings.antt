@@ -1,30 +1,28 @@
 -- Each vertex is read as what the format says of it.
-use Rattle.std.proofs.Common.{◌≡◌, ℕ, ◌+◌, ◌<◌, ◌^◌, Bool, true, false, not, ◌&&◌, List, [], ◌∷◌, ◌++◌, cond, length, map, Result, Ok, Err, Option, Some, None, refl, sym, ap, ◌∙◌, inl, inr, append_assoc, append-nil, bytes_eq, arith}
+use Rattle.std.proofs.Common.{◌≡◌, ℕ, ◌<◌, Bool, true, false, not, List, [], ◌∷◌, ◌++◌, cond, length, map, Result, Ok, Err, Option, Some, None, refl, sym, ap, ◌∙◌, inl, inr, append_assoc, bytes_eq, arith}
 use Rattle.std.proofs.lemmas.Bool.{cases_Bool, false≢true}
 use Rattle.std.proofs.lemmas.Grind.{flat_map-append}
 use Rattle.std.proofs.lemmas.List.{length-map}
 use Rattle.std.proofs.lemmas.List.Quantifiers.{position-Some}
-use Rattle.std.specs.Prelude.{⊤, codes, is_some, unwrap_or, option_map, option_and_then, flat_map}
+use Rattle.std.specs.Prelude.{codes, is_some, unwrap_or, option_and_then, flat_map}
 use Rattle.std.specs.List.{list_any}
 use Rattle.std.specs.Option.{option_map_or}
 use Rattle.toml.specs.Data.{Data, string, integer, float, boolean, datetime, array, table, Items, no_items, item, Members, get_member, as_str, as_array}
-use Rattle.ss_expr.specs.declared.stream_operator.Agg.TheVariants as agg
-use Rattle.ss_expr.specs.declared.stream_operator.Field.TheVariants as value
 use Rattle.ss_expr.specs.declared.stream_operator.Spec.{Spec}
 use Rattle.ss_expr.specs.declared.stream_operator.Spec.TheVariants as spec
 use Rattle.ss_job.specs.Document.{has_only}
-use Rattle.ss_job.specs.Faults.{unless, item_count, called_faults, rest_faults, vertex_faults}
-use Rattle.ss_job.specs.Fields.{◌>>=◌, ◌>>◌, refuse, required, needed, as_texts, needed_text, needed_texts, needed_number, optional_number, size_of, late_of, value_of, replay_of, agg_of, test_of, row_number_of}
+use Rattle.ss_job.specs.Faults.{unless, item_count, rest_faults, vertex_faults}
+use Rattle.ss_job.specs.Fields.{◌>>=◌, ◌>>◌, refuse, required, needed, as_texts, needed_text, needed_texts}
 use Rattle.ss_job.specs.Format.{Field, key_of, has, may_have, text, number, texts, are_texts, name_field, op_field, inner_fields, fields_of, vertex_keys}
 use Rattle.ss_job.specs.JobIn.{op_in, op_or_source, policy_in, select_in, window_in, file_in, vertex_with, inputs_in, nodes_in}
-use Rattle.ss_job.specs.JobText.{VertexText, source, inner, sink}
-use Rattle.ss_job.specs.Lookup.{op_named, text_in, number_in, texts_in, texts_of, word_in, tree_in, late_named, agg_named, value_named}
+use Rattle.ss_job.specs.JobText.{inner}
+use Rattle.ss_job.specs.Lookup.{op_named, text_in, number_in, texts_of}
 use Rattle.ss_job.specs.Names.{is_vertex_name, is_file_name}
-use Rattle.ss_job.specs.Vertices.{DraftText, EntryText, name_of, op_of, if_stream, input_of, input_at, numbers_of, inputs_of, source_file_of, sink_file_of, writes_to, policy_of, select_of, window_of, operator_of, source_of, select_entry, window_entry, plain_entry, sink_of, entry_of, with_vertex, draft_after}
-use Rattle.ss_job.specs.Wrong.{when, name_faults, names_in, is_among, sink_files, input_faults, inputs_faults, is_sink_at, number_of, has_input_count, said_faults, field_faults, unknown_faults, value_faults}
+use Rattle.ss_job.specs.Vertices.{EntryText, name_of, op_of, if_stream, input_of, input_at, numbers_of, inputs_of, source_file_of, sink_file_of, writes_to, policy_of, select_of, window_of, operator_of, source_of, select_entry, window_entry, plain_entry, sink_of, entry_of, with_vertex, draft_after}
+use Rattle.ss_job.specs.Wrong.{when, name_faults, names_in, is_among, sink_files, input_faults, inputs_faults, is_sink_at, number_of, has_input_count, said_faults, field_faults, value_faults}
 use Rattle.ss_job.specs.declared.fault.JobWhy.{JobWhy}
 use Rattle.ss_job.specs.declared.fault.JobWhy.TheVariants.{BadName, RepeatedName, RepeatedFile, BadOp, UnknownField, LaterInput, SinkAsInput, WrongInputCount}
-use Rattle.ss_job.specs.declared.field_name.FieldName.TheVariants.{Name, Op as OpField, Inputs, File, A, B, Late, Where, Size, Hop, Agg, Of, Recover, Every, Replicas}
+use Rattle.ss_job.specs.declared.field_name.FieldName.TheVariants.{Name, Op as OpField, Inputs, File, A, B, Where, Size, Hop, Agg, Of, Replicas}
 use Rattle.ss_job.specs.declared.op.Op.{Op}
 use Rattle.ss_job.specs.declared.op.Op.TheVariants as op
 use Rattle.ss_job.proofs.Absent.{get_member-absent}

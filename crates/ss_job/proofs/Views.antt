@@ -1,5 +1,5 @@
 -- What the code sees of a table or an array, and what its data say.
-use Rattle.std.proofs.Common.{◌≡◌, ℕ, ◌<◌, ◌≤◌, Bool, ◌&&◌, ◌||◌, bytes_eq, string_bytes, List, [], ◌∷◌, map, length, None, Bor, refl, ap, arith}
+use Rattle.std.proofs.Common.{◌≡◌, ℕ, Bool, ◌&&◌, ◌||◌, bytes_eq, string_bytes, List, [], ◌∷◌, map, length, Bor, refl, ap, arith}
 use Rattle.std.specs.List.{list_any, list_all}
 use Rattle.std.specs.Map.{keys_of}
 use Rattle.toml.proofs.Views.{Entry}

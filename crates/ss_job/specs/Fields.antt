@@ -1,5 +1,5 @@
 -- A plain reader of the fields of a table: what a field holds, or what is wrong with it.
-use Rattle.std.specs.Prelude.{ℕ, ℤ, ◌*◌, ◌^◌, Bool, false, ◌&&◌, List, Option, Some, None, option_and_then, Result, Ok, Err, unwrap_or, if◌then◌else◌, codes, ⊤}
+use Rattle.std.specs.Prelude.{ℕ, ℤ, ◌*◌, Bool, false, ◌&&◌, List, Option, Some, None, option_and_then, Result, Ok, Err, unwrap_or, if◌then◌else◌, ⊤}
 use Rattle.toml.specs.Data.{Data, Items, Members, as_str, as_integer, as_array, get_member}
 use Rattle.ss_events.specs.declared.late.Late.{Late}
 use Rattle.ss_events.specs.declared.late.Late.TheVariants.{Refuse}
@@ -18,7 +18,7 @@ use Rattle.ss_job.specs.Wrong.{is_within, is_multiple, out_of_range}
 use Rattle.ss_job.specs.declared.fault.JobWhy.{JobWhy}
 use Rattle.ss_job.specs.declared.fault.JobWhy.TheVariants.{MissingField, WrongKind, BadWord, BadExpr}
 use Rattle.ss_job.specs.declared.field_name.FieldName.{FieldName}
-use Rattle.ss_job.specs.declared.field_name.FieldName.TheVariants.{Inputs, Late as LateField, Where, Size, Agg, Of, Recover}
+use Rattle.ss_job.specs.declared.field_name.FieldName.TheVariants.{Late as LateField, Where, Size, Agg, Of, Recover}
 
 infixl 10 ◌>>=◌
 abbrev pub ◌>>=◌ : {A B E : Type 0} → Result A E → (A → Result B E) → Result B E

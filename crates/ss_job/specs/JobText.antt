@@ -1,5 +1,5 @@
 -- What a job says.
-use Rattle.std.specs.Prelude.{ℕ, List, Option, Some, None, option_map, option_and_then, slice_get}
+use Rattle.std.specs.Prelude.{ℕ, List, Option, Some, None, option_map, option_and_then, slice_get, IsSome}
 use Rattle.ss_events.specs.declared.late.Late.{Late}
 use Rattle.ss_expr.specs.declared.stream_operator.Spec.{Spec}
 use Rattle.ss_expr.specs.declared.stream_operator.Spec.TheVariants as spec
@@ -69,3 +69,10 @@ spec_of job v = option_and_then spec_of_vertex (slice_get job.vertices v)
 
 abbrev pub policy_of : JobText → ℕ → Option Policy
 policy_of job v = option_and_then policy_of_vertex (slice_get job.vertices v)
+
+-- what a vertex with an op has: a source a file and what becomes of rows that come late, a sink a file, and each other
+-- what it computes and how it is kept safe
+abbrev pub Has : Op → JobText → ℕ → Type 0
+Has op.Source job v = IsSome (file_of job v) × IsSome (late_of job v)
+Has op.Sink job v = IsSome (file_of job v)
+Has _ job v = IsSome (spec_of job v) × IsSome (policy_of job v)

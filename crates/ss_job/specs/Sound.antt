@@ -1,5 +1,5 @@
 -- What every job keeps.
-use Rattle.std.specs.Prelude.{◌≡◌, ℕ, ◌*◌, ◌%◌, ◌^◌, ◌≤◌, List, Some, length, true, IfSome, slice_get}
+use Rattle.std.specs.Prelude.{◌≡◌, ℕ, ◌*◌, ◌%◌, ◌^◌, ◌≤◌, Some, length, IfSome, slice_get}
 use Rattle.ss_expr.specs.Kinds.{HasKind}
 use Rattle.ss_expr.specs.declared.kind.ValueKind.TheVariants.{Truth, Num}
 use Rattle.ss_expr.specs.declared.stream_operator.Spec.{Spec}

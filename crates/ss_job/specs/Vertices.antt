@@ -1,8 +1,7 @@
 -- A plain reader of the vertices: one after the other, each by those before it.
-use Rattle.std.specs.Prelude.{ℕ, ◌+◌, ◌-◌, ◌^◌, Bool, false, not, List, [], ◌∷◌, ◌++◌, length, replicate, Option, option_and_then, Result, Ok, Err, bytes_eq, codes, if◌then◌else◌}
+use Rattle.std.specs.Prelude.{ℕ, ◌-◌, ◌^◌, Bool, false, not, List, [], ◌∷◌, ◌++◌, length, replicate, Result, Ok, Err, bytes_eq, codes, if◌then◌else◌}
 use Rattle.std.specs.List.{list_any, position}
-use Rattle.toml.specs.Data.{Data, Items, no_items, item, Members, as_str, as_table}
-use Rattle.ss_events.specs.declared.late.Late.{Late}
+use Rattle.toml.specs.Data.{Data, Items, no_items, item, Members, as_str}
 use Rattle.ss_expr.specs.declared.stream_operator.Spec.{Spec}
 use Rattle.ss_expr.specs.declared.stream_operator.Spec.TheVariants as spec
 use Rattle.ss_fail.specs.declared.role.Role.{Role}

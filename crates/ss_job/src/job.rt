@@ -40,7 +40,7 @@ impl Model for Job {
 }
 
 impl Job {
-    ghost use Rattle.ss_job.specs.JobText.{op_of, file_of, late_of, spec_of, policy_of};
+    ghost use Rattle.ss_job.specs.JobText.{Has, op_of, file_of, late_of, spec_of, policy_of};
     ghost use Rattle.ss_job.specs.Owned.{vertex_text};
     ghost use Rattle.ss_job.specs.Reading.{job_of_parts};
     ghost use Rattle.ss_job.specs.Sound.{IsJob};
@@ -79,6 +79,7 @@ impl Job {
     pub fn op(&self, v: u32) -> Op
         requires { v < length self.now.vertices }
         ensures op { op_of self.now v ≡ Some result }
+        ensures has { Has result self.now v }
         ensures sound { IsJob self.now }
     {
         match &self.vertices[v as usize] {

@@ -1,4 +1,4 @@
-use Rattle.std.proofs.Common.{subst, sym, ◌∙◌}
+use Rattle.std.proofs.Common.{sym, ◌∙◌}
 use Rattle.toml.specs.View.{table_view}
 use Rattle.ss_job.proofs.DocumentReadings.{read_document-job_of}
 use Rattle.ss_job.proofs.Refusals.{refuses}

@@ -1,4 +1,4 @@
-use Rattle.std.proofs.Common.{◌≡◌, ◌∷◌, [], length, arith, rules, sym, ap, ◌∙◌, Err, get_or}
+use Rattle.std.proofs.Common.{◌≡◌, ◌∷◌, [], arith, rules, sym, ◌∙◌, Err, get_or}
 use Rattle.std.proofs.lemmas.List.{length-append}
 use Rattle.toml.specs.View.{items_view}
 use Rattle.ss_job.proofs.NumberLoop.{numbers-more, numbers-stop, numbers-end}

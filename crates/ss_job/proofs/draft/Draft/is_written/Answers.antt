@@ -3,7 +3,6 @@ use Rattle.std.proofs.lemmas.Iterator.{YieldsList-from_slice}
 use Rattle.std.proofs.lemmas.Iterator.Search.{any_from_yields_List}
 use Rattle.std.specs.List.{list_any}
 use Rattle.ss_job.proofs.Views.{written-view}
-use Rattle.ss_job.specs.JobText.{VertexText}
 use Rattle.ss_job.specs.Owned.{vertex_text}
 use Rattle.ss_job.specs.Vertices.{DraftText, writes_to}
 use Rattle.ss_job.specs.declared.vertex.Vertex.{Vertex}
