@@ -11,6 +11,8 @@ mod expr;
 #[cfg(test)]
 mod fail;
 #[cfg(test)]
+mod job;
+#[cfg(test)]
 mod outside;
 #[cfg(test)]
 mod report;

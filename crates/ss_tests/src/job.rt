@@ -1,7 +1,7 @@
 ghost use Rattle.std.specs.Prelude.{◌<◌, length};
 
-use super::{Job, Op, read_job};
 use ss_expr::{Expr, Spec};
+use ss_job::{Job, Op, read_job};
 use std::alloc::{AllocError, Global};
 use std::test::Fail;
 
