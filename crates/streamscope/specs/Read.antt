@@ -33,7 +33,7 @@ abbrev pub IsReadCauseOfVertex : Telling → JobText → ℕ → ℕ → ℕ →
 IsReadCauseOfVertex told job v old new why =
     (file : List ℕ) × (late : Late) × IsSourceAt job v file late × IsReadCause (HasEventFault late) told file old new why
 
--- vertex v is a source that could not be read, and those before it were
+-- vertex v is a source, the files of those before it have events, and a read failed: the count of faults rose
 abbrev pub IsFirstUnread : Telling → JobText → ℕ → ℕ → ℕ → Type 0
 IsFirstUnread told job v old new =
     AreReadBefore told job v × ((file : List ℕ) × (late : Late) × IsSourceAt job v file late) × Rose old new

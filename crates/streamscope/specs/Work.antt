@@ -84,11 +84,11 @@ IsStreamAt told job v list = (vertex : VertexText) × (slice_get job.vertices v 
 abbrev pub IsSourceAt : JobText → ℕ → List ℕ → Late → Type 0
 IsSourceAt job v file late = slice_get job.vertices v ≡ Some (source file late)
 
--- the sources before vertex v were read
+-- the files of the sources before vertex v have events
 abbrev pub AreReadBefore : Telling → JobText → ℕ → Type 0
 AreReadBefore told job v = (lists : List (List Element)) × AreStreams told (take v job.vertices) lists
 
--- those before vertex v were read, and the file of v has this fault
+-- the files of the sources before vertex v have events, and the file of v has this fault
 abbrev pub IsFirstFault : Telling → JobText → ℕ → EventFault → Type 0
 IsFirstFault told job v fault =
     AreReadBefore told job v
