@@ -8,10 +8,6 @@ use Rattle.ss_job.specs.Vertices.{padded}
 abbrev pub names_of : {S : Type 0} → HashSet (String Global) S → List (List ℕ)
 names_of set = map string_bytes set.keys
 
--- the inputs in their order: the first `width` of the numbers
-abbrev pub inputs_at : List ℕ → ℕ → List ℕ
-inputs_at numbers width = take width numbers
-
 -- at most 8 inputs, and zeros behind them
 pub record AreInputs (numbers : List ℕ) (width : ℕ) : Type 0 where
   pub few : width ≤ 8

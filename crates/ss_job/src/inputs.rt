@@ -13,12 +13,12 @@ pub(crate) struct Inputs {
 }
 
 impl Model for Inputs {
-    ghost use Rattle.std.specs.Prelude.{List, ℕ};
-    ghost use Rattle.ss_job.specs.Indexed.{AreInputs, inputs_at};
+    ghost use Rattle.std.specs.Prelude.{List, ℕ, take};
+    ghost use Rattle.ss_job.specs.Indexed.{AreInputs};
 
     ghost Value = { List ℕ };
 
-    ghost view = { λ inputs. inputs_at inputs.numbers inputs.width };
+    ghost view = { λ inputs. take inputs.width inputs.numbers };
 
     ghost invariant = { λ inputs. AreInputs inputs.numbers inputs.width };
 }

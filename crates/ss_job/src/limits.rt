@@ -9,10 +9,13 @@ use crate::field_name::FieldName;
 use crate::fields::optional_number;
 use toml::Table;
 
+/// The most elements that a stream may have, and that may be stored between two passes of collection.
 const MOST: u64 = 131072;
 
+/// The fewest elements that may be stored between two passes of collection.
 const FEWEST_COLLECTED: u64 = 64;
 
+/// How many may be stored where the job says nothing.
 const DEFAULT_COLLECTED: u64 = 256;
 
 /// The limits of a job.

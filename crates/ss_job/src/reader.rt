@@ -72,6 +72,7 @@ fn read_document(alloc: Global, document: &Table) -> Result<Job, JobsFault>
     Ok(job)
 }
 
+/// The limits and the array of the vertices, or a fault of no single vertex.
 fn located_parts(document: &Table) -> Result<(Limits, &Array), JobFault>
     ensures read { seen (λ parts. (parts.0, array_view parts.1.now)) result ≡ faulty whole (parts_of (table_view document.now)) }
     ensures few { IfOk result (λ parts. item_count (array_view parts.1.now) ≤ 32) }

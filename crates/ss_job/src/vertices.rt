@@ -28,11 +28,13 @@ use std::alloc::Global;
 use toml::value::Array;
 use toml::{Table, Value};
 
-/// The most steps between two hops of a window, the most elements between two snapshots, and the most replicas.
+/// The longest hop of a window.
 const MOST_HOP: u64 = 1 << 40;
 
+/// The most elements between two snapshots.
 const MOST_EVERY: u64 = 131072;
 
+/// The most replicas of a vertex.
 const MOST_REPLICAS: u64 = 4;
 
 /// Adds the vertex of a table to those before it. After a refusal the draft is of no further use.

@@ -12,6 +12,8 @@ mod run;
 mod sinks;
 mod sources;
 mod summary;
+#[cfg(test)]
+mod tests;
 mod work;
 mod write;
 
