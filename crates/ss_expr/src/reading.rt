@@ -61,7 +61,6 @@ fn read(alloc: Global, text: &[u8]) -> Result<Expr, ParseFault>
 
 /// Takes the token that begins at a byte, unless the byte belongs to the token before it or is a blank, and
 /// answers how many bytes behind it belong to the token.
-#[tactic(auto, using(crate::proofs::Scans::turns))]
 fn take_byte(
     alloc: Global,
     parser: &mut Parser,
