@@ -200,3 +200,18 @@ fn each_sink_has_its_own_source(rt: HostRuntime) -> Result<(), Fail> {
     }
     Ok(())
 }
+
+#[test]
+fn a_file_of_two_sources_is_read_for_each(rt: HostRuntime) -> Result<(), Fail> {
+    let command = Command {
+        words: &RUN,
+        files: &[("job.toml", ONE_FILE), ("one.csv", EVENTS)],
+        reads: &[3],
+        puts: &[],
+    };
+    let left = Left {
+        status: 5,
+        texts: &[("!", "streamscope: cannot read one.csv\n")],
+    };
+    check_left(&rt, rt.alloc(), "the third read", command, left)
+}
