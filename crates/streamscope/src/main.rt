@@ -1,6 +1,8 @@
 //! The program `streamscope`.
 #![tactic(auto)]
 
+ghost use Rattle.std.specs.IoError.{error_kind};
+ghost use Rattle.std.specs.Prelude.{◌≡◌, ◌⊎◌, ◌↔◌};
 ghost use Rattle.streamscope.specs.FaultText.{NamesFile};
 
 mod check;
@@ -21,6 +23,7 @@ use crate::fault::Fault;
 use crate::outside::Outside;
 use crate::perform::{perform, refuse};
 use ss_outside::{FileInputs, FileOutputs, MemDepot};
+use std::io::ErrorKind;
 use std::process::ExitCode;
 use std::{env, io};
 
@@ -48,11 +51,12 @@ fn main(rt: HostRuntime) -> ExitCode {
 
 /// Why there are no words: want of memory, or words that are no text.
 fn fault_of(error: &io::Error) -> Fault
-    ensures { NamesFile result }
+    ensures file { NamesFile result }
+    ensures memory { error_kind error.now ≡ ErrorKind.OutOfMemory ↔ result ≡ Fault.Memory }
+    ensures other { (result ≡ Fault.Usage) ⊎ (result ≡ Fault.Memory) }
 {
-    if error.kind() == io::ErrorKind::OutOfMemory {
-        Fault::Memory
-    } else {
-        Fault::Usage
+    match error.kind() {
+        ErrorKind::OutOfMemory => Fault::Memory,
+        _ => Fault::Usage,
     }
 }
