@@ -1,6 +1,5 @@
 -- What follows from how a command ended.
-use Rattle.std.proofs.Common.{◌≡◌, ℕ, ◌≤◌, List, [], ◌∷◌, ◌++◌, take, Some, None, Ok, Err, codes, refl, sym, ap, ◌∙◌, subst, ◌⊎◌, inl, inr, arith}
-use Rattle.ss_elem.specs.declared.element.Element.{Element}
+use Rattle.std.proofs.Common.{◌≡◌, ℕ, ◌≤◌, List, [], ◌∷◌, take, Some, None, Err, codes, refl, sym, ap, ◌∙◌, subst, ◌⊎◌, inl, inr, arith}
 use Rattle.ss_events.specs.declared.fault.EventFault.{EventFault}
 use Rattle.ss_job.specs.JobText.{JobText}
 use Rattle.ss_job.specs.declared.fault.JobFault.{JobFault}
@@ -10,11 +9,11 @@ use Rattle.ss_words.specs.Answers.{command_text}
 use Rattle.ss_words.specs.declared.words.Action.{Action}
 use Rattle.ss_words.specs.declared.words.Action.TheVariants.{Check, Run}
 use Rattle.ss_words.specs.declared.words.Command.{Command}
-use Rattle.streamscope.specs.Ends.{Seen, FaultCause, Stopped, RunCause, RunDone, RunStopped, IsToldUpTo, IsTold, TellsLine, EndsWithFault, EndsDone, TellsJobFault, TellsJob, TellsRun, TellsEventFault, TellsStreams, Comes, Ends, fault_line}
-use Rattle.streamscope.specs.FaultText.{status_of, line_of, NamesFile}
+use Rattle.streamscope.specs.Ends.{Seen, FaultCause, Stopped, RunCause, RunDone, RunStopped, TellsLine, EndsWithFault, EndsDone, TellsJobFault, TellsJob, TellsRun, TellsEventFault, TellsStreams, Comes, Ends, fault_line}
+use Rattle.streamscope.specs.FaultText.{status_of, NamesFile}
 use Rattle.streamscope.specs.Output.{check_puts, run_puts}
 use Rattle.streamscope.specs.Puts.{Put, put_of, first_bytes, Puts, Wrote}
-use Rattle.streamscope.specs.Work.{Asked, Names, SayJob, FileSaysJob, IsOutput, unbuilt}
+use Rattle.streamscope.specs.Work.{Asked, SayJob, FileSaysJob, IsOutput, unbuilt}
 use Rattle.streamscope.specs.declared.fault.Fault.{Fault}
 use Rattle.streamscope.specs.declared.fault.Fault.TheVariants.{Usage, Job, NotBuilt, Events, JobUnread, SourceUnread, Output, Memory}
 use Rattle.ss_outside.specs.declared.outputs.PutFault.TheVariants as put

@@ -1,19 +1,18 @@
 -- How a run ends, step by step.
-use Rattle.std.proofs.Common.{◌≡◌, ℕ, ◌≤◌, List, [], ◌∷◌, Some, None, take, refl, inl, inr, sym, ap, ◌∙◌, subst}
+use Rattle.std.proofs.Common.{◌≡◌, ℕ, List, [], None, take, refl, inl, inr}
 use Rattle.std.specs.Prelude.{Err}
 use Rattle.ss_elem.specs.declared.element.Element.{Element}
 use Rattle.ss_events.specs.declared.fault.EventFault.{EventFault}
 use Rattle.ss_job.specs.JobText.{JobText}
 use Rattle.ss_outside.specs.declared.outputs.PutFault.TheVariants.{Failed, Memory}
-use Rattle.streamscope.specs.Ends.{Seen, RunCause, RunStopped}
+use Rattle.streamscope.specs.Ends.{Seen, RunStopped}
 use Rattle.streamscope.specs.Output.{run_puts}
-use Rattle.streamscope.specs.Puts.{Put, first_bytes, Puts, Wrote}
-use Rattle.streamscope.specs.Read.{IsSourceCause, IsSourceCauseAt, fault_of_source}
+use Rattle.streamscope.specs.Puts.{first_bytes, Puts, Wrote}
+use Rattle.streamscope.specs.Read.{IsSourceCauseAt, fault_of_source}
 use Rattle.streamscope.specs.Work.{AreStreams, unbuilt}
-use Rattle.streamscope.specs.declared.fault.Fault.TheVariants.{Output, NotBuilt, Memory as NoMemory}
+use Rattle.streamscope.specs.declared.fault.Fault.TheVariants.{Output, Memory as NoMemory}
 use Rattle.streamscope.specs.declared.read.ReadFault.{ReadFault}
 use Rattle.streamscope.specs.declared.read.ReadFault.TheVariants.{At, Unread, Memory as Wanting}
-use Rattle.streamscope.specs.declared.sources.SourceFault.{SourceFault}
 
 pub run_unread : (job : JobText) (before after : Seen) (v : ℕ) (why : ReadFault EventFault) → unbuilt job ≡ None → Puts before.outputs after.outputs [] →
     IsSourceCauseAt before.files job before.input_faults after.input_faults v why → RunStopped job before after (fault_of_source job v why)

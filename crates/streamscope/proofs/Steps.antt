@@ -1,28 +1,20 @@
 -- What is put for the vertices of a job, one after the other.
-use Rattle.std.proofs.Common.{◌≡◌, ℕ, zero, suc, ◌+◌, ◌≤◌, ◌<◌, ◌⊎◌, inl, inr, List, [], ◌∷◌, ◌++◌, length, map, Some, None, Option, refl, sym, ap, ◌∙◌, subst, append_assoc, add-one, arith}
-use Rattle.std.proofs.lemmas.List.{append-nil, length-map}
+use Rattle.std.proofs.Common.{◌≡◌, ℕ, zero, suc, ◌+◌, ◌<◌, ◌⊎◌, inl, inr, List, [], ◌∷◌, ◌++◌, length, refl, sym, ap, ◌∙◌, subst, append_assoc, add-one, arith}
+use Rattle.std.proofs.lemmas.List.{append-nil}
 use Rattle.ss_elem.specs.declared.element.Element.{Element}
-use Rattle.ss_job.specs.JobIn.{kind_of}
-use Rattle.ss_job.specs.JobText.{JobText, VertexText, op_of_vertex}
+use Rattle.ss_job.specs.JobText.{JobText}
 use Rattle.ss_job.specs.Sound.{IsJob}
-use Rattle.ss_fail.specs.declared.role.Role.{Role}
 use Rattle.ss_water.specs.declared.node.Node.{Node}
-use Rattle.ss_water.specs.declared.node.Kind.{Kind}
 use Rattle.std.proofs.Common.{false, codes}
 use Rattle.ss_outside.specs.Faults.{Rose}
 use Rattle.ss_outside.specs.Told.{AppendsPart, Spares}
-use Rattle.ss_outside.specs.declared.outputs.PutFault.TheVariants.{Failed}
-use Rattle.std.specs.Prelude.{Err}
 use Rattle.streamscope.proofs.Puts.{PutsPart-one}
 use Rattle.streamscope.specs.Output.{shows_sink, summary_puts, summary_text, vertex_lines, line_of_vertex, puts_below, sink_puts, summary_lines, summary_line}
 use Rattle.streamscope.specs.Puts.{Put, put_of, PutsPart, Written}
 
-pub as_many_vertices : (job : JobText) → IsJob job → length job.vertices ≡ length job.graph
-as_many_vertices job sound = sound.vertices
-
 -- the count of a job's graph is that of its vertices
 pub count_is : (job : JobText) (graph : List Node) (n : ℕ) → IsJob job → graph ≡ job.graph → n ≡ length graph → n ≡ length job.vertices
-count_is job graph n sound same counted = counted ∙ ap (λ (nodes : List Node). length nodes) same ∙ sym (as_many_vertices job sound)
+count_is job graph n sound same counted = counted ∙ ap (λ (nodes : List Node). length nodes) same ∙ sym sound.vertices
 
 pub vertex_lines-more : (job : JobText) (v : ℕ) → vertex_lines job (v + 1) ≡ vertex_lines job v ++ line_of_vertex job v
 vertex_lines-more job v = rw add-one refl

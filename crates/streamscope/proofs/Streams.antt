@@ -1,11 +1,11 @@
 -- The streams of a job's vertices, one behind the other.
-use Rattle.std.proofs.Common.{◌≡◌, ℕ, ◌+◌, ◌<◌, List, [], ◌∷◌, ◌++◌, length, take, map, Some, refl, sym, ap, ◌∙◌, subst, arith}
+use Rattle.std.proofs.Common.{◌≡◌, ℕ, ◌+◌, List, [], ◌∷◌, ◌++◌, take, Some, sym, subst}
 use Rattle.std.proofs.Common.{Vec, Global}
 use Rattle.std.proofs.lemmas.List.{map-append}
 use Rattle.std.specs.List.{slice_get}
 use Rattle.streamscope.specs.Output.{lists_of}
 use Rattle.ss_elem.specs.declared.element.Element.{Element}
-use Rattle.ss_job.specs.JobText.{JobText, VertexText, source, inner, sink}
+use Rattle.ss_job.specs.JobText.{JobText, VertexText}
 use Rattle.ss_outside.specs.Told.{Telling}
 use Rattle.streamscope.specs.Work.{AreStreams, IsStreamOf, IsStreamAt}
 

@@ -1,21 +1,19 @@
 -- What is read of files whose bytes are told.
-use Rattle.std.proofs.Common.{◌≡◌, ℕ, zero, suc, List, [], ◌∷◌, Option, Some, None, Ok, Err, refl, sym, ap, ◌∙◌, subst, inl, inr}
+use Rattle.std.proofs.Common.{◌≡◌, ℕ, zero, suc, List, [], ◌∷◌, Some, None, Err, sym, ap, ◌∙◌, subst}
 use Rattle.std.specs.List.{slice_get}
 use Rattle.ss_elem.specs.declared.element.Element.{Element}
 use Rattle.ss_events.specs.Events.{event_list}
 use Rattle.ss_events.specs.declared.late.Late.{Late}
 use Rattle.ss_events.specs.declared.fault.EventFault.{EventFault}
-use Rattle.ss_job.specs.JobText.{JobText, VertexText, source, inner, sink}
+use Rattle.ss_job.specs.JobText.{JobText, VertexText, source}
 use Rattle.ss_job.specs.Says.{Says, Refuses}
 use Rattle.ss_job.specs.declared.fault.JobFault.{JobFault}
 use Rattle.ss_job.specs.declared.fault.JobsFault.TheVariants.{At}
 use Rattle.ss_outside.specs.Told.{Telling, AreBytesOf}
-use Rattle.ss_words.specs.Words.{CommandText}
 use Rattle.ss_words.specs.declared.words.Action.{Action}
 use Rattle.ss_words.specs.declared.words.Action.TheVariants.{Check, Run}
 use Rattle.streamscope.specs.Ends.{NameJob, TellsJobFault, TellsJob, TellsRun, TellsEventFault, TellsStream, TellsStreams}
-use Rattle.streamscope.specs.Puts.{Put}
-use Rattle.streamscope.specs.Work.{Asked, Names, SayJob, AskRun, AreStreams, IsStreamOf, IsSourceAt, IsOutput, unbuilt}
+use Rattle.streamscope.specs.Work.{Asked, Names, SayJob, AskRun, AreStreams, IsStreamOf, IsSourceAt, unbuilt}
 
 -- what the job reader says of bytes is one thing
 pub record OneReading : Type 0 where

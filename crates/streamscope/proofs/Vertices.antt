@@ -1,11 +1,11 @@
 -- The vertices of a job one by one.
-use Rattle.std.proofs.Common.{◌≡◌, ℕ, zero, suc, ◌+◌, ◌<◌, Bool, true, false, ◌||◌, List, [], ◌∷◌, ◌++◌, length, take, drop, Option, Some, None, if◌then◌else◌, refl, sym, ap, ◌∙◌, subst, add-one, arith}
+use Rattle.std.proofs.Common.{◌≡◌, ℕ, zero, suc, ◌+◌, ◌<◌, true, false, List, [], ◌∷◌, ◌++◌, length, take, drop, Some, refl, ap, add-one, arith}
 use Rattle.std.specs.List.{slice_get, list_any}
 use Rattle.std.specs.Option.{option_map}
-use Rattle.ss_job.specs.JobText.{JobText, VertexText, source, inner, sink, op_of_vertex}
+use Rattle.ss_job.specs.JobText.{JobText, VertexText, op_of_vertex}
 use Rattle.ss_job.specs.declared.op.Op.{Op}
-use Rattle.streamscope.specs.Output.{shows, writes_to_output, file_of_sink}
-use Rattle.streamscope.specs.Work.{first_operator, is_operator, is_operator_op}
+use Rattle.streamscope.specs.Output.{shows, writes_to_output}
+use Rattle.streamscope.specs.Work.{first_operator, is_operator}
 
 -- a list at a place within it
 pub record IsAt {A : Type 0} (xs : List A) (v : ℕ) (x : A) : Type 0 where

@@ -1,12 +1,11 @@
 -- What a command puts where its work is done.
-use Rattle.std.specs.Prelude.{◌≡◌, ◌⊎◌, ℕ, zero, suc, Vec, map, Bool, true, false, not, ◌&&◌, List, [], ◌∷◌, ◌++◌, length, Option, Some, None, option_map, option_and_then, slice_get, slice_index, bytes_eq, codes, if◌then◌else◌, get_or}
+use Rattle.std.specs.Prelude.{ℕ, zero, suc, Vec, map, Bool, false, List, [], ◌∷◌, ◌++◌, length, Option, Some, None, option_and_then, slice_get, slice_index, bytes_eq, codes, if◌then◌else◌, get_or}
 use Rattle.std.specs.List.{list_any}
 use Rattle.std.specs.Option.{option_map_or}
 use Rattle.std.specs.declared.alloc.Global.{Global}
 use Rattle.ss_elem.specs.declared.element.Element.{Element}
 use Rattle.ss_job.specs.JobText.{VertexText, source, inner, sink, JobText, op_of}
 use Rattle.ss_report.specs.StateText.{state_text}
-use Rattle.ss_report.specs.declared.state_row.StateRow.{StateRow}
 use Rattle.ss_report.specs.declared.state_row.StateRow.TheVariants.{Vertex, Checked, Summary, Done}
 use Rattle.ss_water.specs.declared.node.Node.{Node}
 use Rattle.ss_job.specs.declared.op.Op.{Op}

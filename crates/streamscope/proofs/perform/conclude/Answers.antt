@@ -1,11 +1,11 @@
-use Rattle.std.proofs.Common.{◌≡◌, ◌≤◌, [], Some, None, map, string_bytes, sym, refl, inl, subst, arith}
+use Rattle.std.proofs.Common.{◌≡◌, [], Some, None, map, string_bytes, sym, refl, inl, subst, arith}
 use Rattle.ss_words.specs.Answers.{command_text}
 use Rattle.ss_words.specs.Words.{command_of}
-use Rattle.streamscope.specs.Ends.{Ends, Seen, Stopped, seen}
+use Rattle.streamscope.specs.Ends.{Ends, Stopped, seen}
 use Rattle.streamscope.specs.Work.{Asked}
 use Rattle.streamscope.specs.declared.fault.Fault.TheVariants.{Usage, Memory}
 use Rattle.streamscope.specs.Puts.{written}
-use Rattle.streamscope.proofs.Ends.{IsLater, ends_done, ends_with_fault, names_file, stop_told}
+use Rattle.streamscope.proofs.Ends.{IsLater, ends_done, ends_with_fault, stop_told}
 use Rattle.streamscope.proofs.Puts.{Puts-nil}
 use Rattle.streamscope.proofs.Told.{OneReading}
 use Rattle.streamscope.proofs.perform.conclude.Goals as goal

@@ -1,10 +1,8 @@
-use Rattle.std.proofs.Common.{◌≡◌, None, sym, ◌∙◌, ap, subst}
-use Rattle.std.specs.Prelude.{Err}
-use Rattle.ss_outside.specs.declared.outputs.PutFault.TheVariants.{Failed, Memory}
-use Rattle.streamscope.specs.Ends.{RunStopped, Seen, seen}
-use Rattle.streamscope.specs.Output.{lists_of, run_puts}
-use Rattle.streamscope.specs.Puts.{Wrote, written}
-use Rattle.streamscope.specs.Work.{AreStreams, unbuilt}
+use Rattle.std.proofs.Common.{◌≡◌, None, sym, ◌∙◌, subst}
+use Rattle.streamscope.specs.Ends.{RunStopped, seen}
+use Rattle.streamscope.specs.Output.{lists_of}
+use Rattle.streamscope.specs.Puts.{written}
+use Rattle.streamscope.specs.Work.{unbuilt}
 use Rattle.streamscope.proofs.Puts.{Puts-nil}
 use Rattle.streamscope.proofs.Runs.{run_unread, run_failed, run_wanting}
 use Rattle.streamscope.proofs.run.run.Goals as goal

@@ -1,5 +1,4 @@
 use Rattle.std.proofs.Common.{◌≡◌, ◌<◌, ◌++◌, ◌∷◌, [], length, sym, ap, ◌∙◌, subst, arith}
-use Rattle.std.proofs.lemmas.List.{map-append}
 use Rattle.ss_outside.specs.Told.{Telling}
 use Rattle.streamscope.specs.Output.{lists_of}
 use Rattle.streamscope.specs.Work.{AreStreams, IsStreamAt}

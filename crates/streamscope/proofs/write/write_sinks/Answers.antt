@@ -1,4 +1,4 @@
-use Rattle.std.proofs.Common.{◌≡◌, ◌<◌, length, sym, ◌∙◌, subst, arith}
+use Rattle.std.proofs.Common.{◌<◌, length, sym, subst, arith}
 use Rattle.streamscope.specs.Output.{lists_of, puts_below, sink_puts}
 use Rattle.streamscope.specs.Puts.{Puts, written}
 use Rattle.streamscope.proofs.Puts.{Puts-append}
