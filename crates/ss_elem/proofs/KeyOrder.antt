@@ -1,5 +1,5 @@
 -- Numbers of keys compare as their texts do.
-use Rattle.std.proofs.Common.{◌≡◌, ℕ, zero, suc, ◌+◌, ◌*◌, ◌^◌, ◌<◌, ◌≤◌, true, List, [], ◌∷◌, length, nat_cmp, refl, sym, arith, lit<}
+use Rattle.std.proofs.Common.{◌≡◌, ℕ, zero, suc, ◌+◌, ◌*◌, ◌^◌, ◌<◌, ◌≤◌, true, List, [], ◌∷◌, length, nat_cmp, refl, sym, arith, lit<, Bool, false, Some, None, if◌then◌else◌}
 use Rattle.std.proofs.Math.Nat.{one-le-pow, mul-le-mul_left}
 use Rattle.std.specs.Cmp.{nat_cmp_is, ranks}
 use Rattle.std.specs.Cmp.Lexicographic.{slice_cmp}
@@ -7,7 +7,7 @@ use Rattle.std.specs.List.{list_all}
 use Rattle.std.specs.Ordering.{MatchOrdering, ordering_then}
 use Rattle.std.specs.declared.cmp.Ordering.{Ordering}
 use Rattle.std.specs.declared.cmp.Ordering.TheVariants.{Less, Equal, Greater}
-use Rattle.ss_elem.specs.Key.{weight, key_number, KeyOrderIsTextOrder}
+use Rattle.ss_elem.specs.Key.{weight, key_number, key_text, is_key_text, IsKeyNumber}
 use Rattle.ss_elem.proofs.KeyNumbers.{is_plain, all_head, all_tail, all_plain, weight-lt, IsKey, is_key}
 
 -- the order of two numbers
@@ -47,9 +47,30 @@ weight-ranks (suc k) (a ∷ x) (b ∷ y) few few_too plain plain_too =
     weight-ranks k x y (omega (arith, few)) (omega (arith, few_too)) tail_x tail_y in
     ranks-first (256 ^ k) a b (weight k x) (weight k y) (slice_cmp nat_cmp x y) (weight-lt k x tail_x) (weight-lt k y tail_y) rest (nat_cmp a b) (ranks a b)
 
-pub key_order : KeyOrderIsTextOrder
-key_order x y hx hy =
+-- numbers of key texts compare as the texts do
+pub numbers_of_texts : (x y : List ℕ) → is_key_text x ≡ true → is_key_text y ≡ true → nat_cmp (key_number x) (key_number y) ≡ slice_cmp nat_cmp x y
+numbers_of_texts x y hx hy =
     let key_x : IsKey x = is_key x hx in
     let key_y : IsKey y = is_key y hy in
     sym (nat_cmp_is (key_number x) (key_number y) (slice_cmp nat_cmp x y)
     (weight-ranks 16 x y key_x.few key_y.few (all_plain x key_x.bytes) (all_plain y key_y.bytes)))
+
+-- the text of a key's number is a key text, of that number
+pub record Spells (n : ℕ) : Type 0 where
+  pub is_text : is_key_text (key_text n) ≡ true
+  pub number : key_number (key_text n) ≡ n
+
+pub spells_by : (test : Bool) (n number : ℕ) → (if test then Some number else None) ≡ Some n → (test ≡ true) × (number ≡ n)
+spells_by true n number h = (refl, cc)
+spells_by false n number h = cc
+
+pub spells : (n : ℕ) → IsKeyNumber n → Spells n
+spells n h =
+    let both = spells_by (is_key_text (key_text n)) n (key_number (key_text n)) h in
+    record { is_text = both.0; number = both.1 }
+
+pub compare_texts : (x y : ℕ) → IsKeyNumber x → IsKeyNumber y → nat_cmp x y ≡ slice_cmp nat_cmp (key_text x) (key_text y)
+compare_texts x y hx hy =
+    let of_x : Spells x = spells x hx in
+    let of_y : Spells y = spells y hy in
+    cc (numbers_of_texts (key_text x) (key_text y) of_x.is_text of_y.is_text)

@@ -1,7 +1,6 @@
 -- Keys as texts and as numbers.
-use Rattle.std.specs.Prelude.{◌≡◌, ℕ, zero, suc, ◌+◌, ◌*◌, ◌^◌, Bool, true, false, ◌&&◌, not, ◌==◌, nat_lt, nat_le, List, [], ◌∷◌, length, take, slice_get, Option, Some, None, if◌then◌else◌}
-use Rattle.std.specs.Ordering.{nat_cmp}
-use Rattle.std.specs.Cmp.Lexicographic.{slice_cmp}
+use Rattle.std.specs.Prelude.{◌≡◌, ℕ, zero, suc, ◌+◌, ◌*◌, ◌^◌, Bool, true, false, ◌&&◌, not, ◌==◌, nat_lt, nat_le}
+use Rattle.std.specs.Prelude.{List, [], ◌∷◌, length, take, slice_get, Option, Some, None, if◌then◌else◌}
 use Rattle.std.specs.List.{list_all, take_while}
 use Rattle.std.specs.Int.{w128, to_be_bytes}
 
@@ -40,9 +39,5 @@ IsKeyNumber n = key_of (key_text n) ≡ Some n
 
 -- the byte at this place may not stand in a key, and all before it may
 abbrev pub IsFirstBadByte : List ℕ → ℕ → ℕ → Type 0
-IsFirstBadByte text at byte = (slice_get text at ≡ Some byte) × (is_key_byte byte ≡ false) × (list_all is_key_byte (take at text) ≡ true)
-
--- numbers of keys compare as their texts do
-abbrev pub KeyOrderIsTextOrder : Type 0
-KeyOrderIsTextOrder =
-    (x y : List ℕ) → is_key_text x ≡ true → is_key_text y ≡ true → nat_cmp (key_number x) (key_number y) ≡ slice_cmp nat_cmp x y
+IsFirstBadByte text at byte =
+    (slice_get text at ≡ Some byte) × (is_key_byte byte ≡ false) × (list_all is_key_byte (take at text) ≡ true)

@@ -1,5 +1,7 @@
 pub mod BadKey
 pub mod Key
+pub mod KeyOrder
 pub mod Line
 pub mod NotNext
+pub mod OutList
 pub mod Validity

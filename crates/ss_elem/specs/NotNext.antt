@@ -34,6 +34,7 @@ IsNotNext bound x AfterEnd = bound ≡ top
 IsNotNext bound x (Far time) = (bound < top) × (far_time x ≡ Some time)
 IsNotNext bound x EmptySpan = IsNear bound x × IsRowAnd x (λ event. event.end ≤ event.start)
 IsNotNext bound x (Early start at) =
-    IsNear bound x × IsRowAnd x (λ event. (event.start < event.end) × (event.start < bound) × (start ≡ event.start) × (at ≡ bound))
+    IsNear bound x
+    × IsRowAnd x (λ event. (event.start < event.end) × (event.start < bound) × (start ≡ event.start) × (at ≡ bound))
 IsNotNext bound x (Backward time at) =
     IsNear bound x × IsCtiAnd x (λ given. (given ≤ bound) × (time ≡ given) × (at ≡ bound))

@@ -1,5 +1,5 @@
 -- Which lists of elements are streams.
-use Rattle.std.specs.Prelude.{Option, Some, None, ◌≡◌, ℕ, ◌^◌, ◌&&◌, nat_lt, nat_le, List, [], ◌∷◌, if◌then◌else◌, IsSome}
+use Rattle.std.specs.Prelude.{Option, Some, None, ◌≡◌, ℕ, ◌^◌, ◌&&◌, nat_lt, nat_le, List, [], ◌∷◌, if◌then◌else◌}
 use Rattle.std.specs.Option.{option_and_then}
 use Rattle.ss_elem.specs.declared.element.Element.{Element}
 use Rattle.ss_elem.specs.declared.element.Element.TheVariants.{Row, Cti, End}
@@ -24,9 +24,6 @@ bound_from bound (x ∷ xs) = option_and_then (λ after. bound_from after xs) (n
 -- a valid list's bound: the time of its last Cti, 0 before any, top after End
 abbrev pub bound_of : List Element → Option ℕ
 bound_of xs = bound_from 0 xs
-
-abbrev pub Valid : List Element → Type 0
-Valid xs = IsSome (bound_of xs)
 
 -- valid, and ended
 abbrev pub Whole : List Element → Type 0

@@ -1,4 +1,5 @@
 ghost use Rattle.std.specs.Prelude.{◌≡◌, ℕ, ◌≤◌, ◌^◌};
+ghost use Rattle.ss_elem.specs.Validity.{top};
 
 use std::marker::Model;
 
@@ -32,10 +33,17 @@ impl Bound {
     }
 
     /// The bound of a stream whose last `Cti` has this time.
-    pub(crate) fn at(time: u64) -> Bound
+    pub fn at(time: u64) -> Bound
         requires { time ≤ 2 ^ 63 }
         ensures { result ≡ time }
     {
         Bound(time)
+    }
+    /// The bounds before any element and after `End`: what the two constants are.
+    pub fn zero_and_top() -> (Bound, Bound)
+        ensures zero { result.0 ≡ 0 }
+        ensures top { result.1 ≡ top }
+    {
+        (Bound::ZERO, Bound::TOP)
     }
 }

@@ -1,4 +1,5 @@
-ghost use Rattle.std.specs.Prelude.{◌≡◌, ℕ, ◌-◌, ◌≤◌, ◌++◌, true, length, replicate, slice_index, IfErr, IfSome, IfNone, Some};
+ghost use Rattle.std.specs.Prelude.{◌≡◌, ℕ, ◌-◌, ◌≤◌, ◌++◌, true, length, replicate, slice_index, IfErr, IfSome};
+ghost use Rattle.std.specs.Prelude.{IfNone, Some};
 ghost use Rattle.std.specs.List.{list_all};
 ghost use Rattle.std.specs.Result.{result_ok};
 ghost use Rattle.ss_elem.specs.Key.{is_key_byte, key_number, key_of, key_text, IsFirstBadByte, IsKeyNumber};

@@ -1,7 +1,8 @@
-ghost use Rattle.ss_elem.specs.Key.{KeyOrderIsTextOrder};
+ghost use Rattle.ss_elem.specs.KeyOrder.{KeysCompareAsTexts, KeysCompareAsNumbers};
 
-/// The numbers of two keys' texts compare as the texts do: byte by byte, and of two texts that begin alike the
-/// shorter one first. A key is the number of its text, so keys compare so too.
+/// Keys compare (`Ord`) as their texts do: byte by byte, and of two texts that begin alike the shorter one first.
+/// That is the order of their numbers too.
 pub fn key_order_is_text_order()
-    ensures { KeyOrderIsTextOrder }
+    ensures texts { KeysCompareAsTexts }
+    ensures numbers { KeysCompareAsNumbers }
 {}

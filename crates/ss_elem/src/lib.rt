@@ -1,4 +1,5 @@
-//! Elements of streams: keys, events, bounds, which element may follow which, and the line of each.
+//! Elements of streams: keys, events, bounds, which element may follow which, the line of each, and lists of
+//! elements that grow into reserved places.
 #![tactic(auto)]
 
 mod bound;
@@ -6,6 +7,7 @@ mod element;
 mod key;
 mod key_order;
 mod line_buf;
+mod out;
 mod validity;
 
 pub use bound::Bound;
@@ -13,4 +15,5 @@ pub use element::{Element, Event};
 pub use key::{BadKey, Key};
 pub use key_order::key_order_is_text_order;
 pub use line_buf::{LineBuf, line};
+pub use out::Out;
 pub use validity::{NotNext, valid_next};

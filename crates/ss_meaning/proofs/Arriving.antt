@@ -21,13 +21,13 @@ pub arrivals_follow : ArrivalsFollow
 arrivals_follow inputs whole p rest x e =
     (from_input x.input rest, sym (merge_keeps_each_input inputs whole x.input) ∙ ap (from_input x.input) e ∙ from_input-here p rest x)
 
-x_within : (inputs : List (List Element)) (p rest : List Arrival) (x : Arrival) → merge inputs ≡ p ++ x ∷ rest → x.input < length inputs
+pub x_within : (inputs : List (List Element)) (p rest : List Arrival) (x : Arrival) → merge inputs ≡ p ++ x ∷ rest → x.input < length inputs
 x_within inputs p rest x e =
     let P : Arrival → Type 0 = λ y. y.input < 0 + length inputs in
     let within : AllByRecursion P (x ∷ rest) = each_second P p (x ∷ rest) (subst (AllByRecursion P) e (merge-input inputs)) in
     omega (arith, within.0)
 
-x_follows : (inputs : List (List Element)) → All Whole inputs → (p rest : List Arrival) (x : Arrival) → merge inputs ≡ p ++ x ∷ rest → Follows (bound (from_input x.input p)) x.element
+pub x_follows : (inputs : List (List Element)) → All Whole inputs → (p rest : List Arrival) (x : Arrival) → merge inputs ≡ p ++ x ∷ rest → Follows (bound (from_input x.input p)) x.element
 x_follows inputs whole p rest x e =
     let split = ap (from_input x.input) e ∙ from_input-here p rest x in
     follows_in (from_input x.input p) (from_input x.input rest) x.element (subst Whole split (merge_whole inputs whole x.input (x_within inputs p rest x e)))

@@ -6,14 +6,14 @@ use Rattle.std.proofs.lemmas.List.Kept.{AllPairs-cons}
 use Rattle.std.proofs.lemmas.Nat.{le-div}
 use Rattle.std.specs.List.{AllByRecursion, AllPairs, flat_map}
 use Rattle.ss_elem.specs.declared.element.Event.{Event}
-use Rattle.ss_meaning.specs.Window.{Window, belongs, multiples, ends_of, put_once, rising, ends, keys}
+use Rattle.ss_meaning.specs.Window.{Window, belongs, multiples, ends_of, put_once, rising, window_ends, window_keys}
 use Rattle.ss_meaning.specs.Laws.{IsEnd, WindowEndsHaveRows, WindowKeysHaveRows}
 use Rattle.ss_meaning.proofs.Each.{each_weaker}
 use Rattle.ss_meaning.proofs.Rows.{multiple-le, each-put_once}
 
 -- being in a list, by recursion
 
-abbrev In : {A : Type 0} → List A → A → Type 0
+abbrev pub In : {A : Type 0} → List A → A → Type 0
 In [] x = ⊥
 In (y ∷ ys) x = (y ≡ x) ⊎ In ys x
 
@@ -22,10 +22,10 @@ in_at [] k x h e = absurd (omega arith)
 in_at (y ∷ ys) zero x h e = inl e
 in_at (y ∷ ys) (suc k) x h e = inr (in_at ys k x (omega arith) e)
 
-in_from : {A : Type 0} (xs : List A) (x : A) → Contains xs x → In xs x
+pub in_from : {A : Type 0} (xs : List A) (x : A) → Contains xs x → In xs x
 in_from xs x h = in_at xs h.0 x h.1 h.2
 
-contains_from : {A : Type 0} (xs : List A) (x : A) → In xs x → Contains xs x
+pub contains_from : {A : Type 0} (xs : List A) (x : A) → In xs x → Contains xs x
 contains_from [] x h = absurd h
 contains_from (y ∷ ys) x (inl e) = (0, omega arith, e)
 contains_from (y ∷ ys) x (inr h) = let rest = contains_from ys x h in (suc rest.0, omega (arith, rest.1), rest.2)
@@ -44,7 +44,7 @@ in-either [] ys x h = inr h
 in-either (z ∷ xs) ys x (inl e) = inl (inl e)
 in-either (z ∷ xs) ys x (inr h) = ⊎_elim (λ l. inl (inr l)) (λ r. inr r) (in-either xs ys x h)
 
-from_filter : {A : Type 0} (test : A → Bool) (xs : List A) (x : A) → In (filter test xs) x → In xs x × (test x ≡ true)
+pub from_filter : {A : Type 0} (test : A → Bool) (xs : List A) (x : A) → In (filter test xs) x → In xs x × (test x ≡ true)
 from_filter test [] x h = absurd h
 from_filter test (y ∷ ys) x h = by_test (test y) refl h (from_filter test ys x)
   where
@@ -53,7 +53,7 @@ from_filter test (y ∷ ys) x h = by_test (test y) refl h (from_filter test ys x
     by_test true e (inr k) f = (inr (f k).0, (f k).1)
     by_test false e k f = (inr (f k).0, (f k).1)
 
-in_filter : {A : Type 0} (test : A → Bool) (xs : List A) (x : A) → In xs x → test x ≡ true → In (filter test xs) x
+pub in_filter : {A : Type 0} (test : A → Bool) (xs : List A) (x : A) → In xs x → test x ≡ true → In (filter test xs) x
 in_filter test [] x h e = absurd h
 in_filter test (y ∷ ys) x (inl same) e = subst (λ b. In (cond b (y ∷ filter test ys) (filter test ys)) x) (sym (ap test same ∙ e)) (inl same)
 in_filter test (y ∷ ys) x (inr h) e = by_test (test y) (in_filter test ys x h e)
@@ -62,29 +62,29 @@ in_filter test (y ∷ ys) x (inr h) e = by_test (test y) (in_filter test ys x h 
     by_test true k = inr k
     by_test false k = k
 
-from_map : {A B : Type 0} (f : A → B) (xs : List A) (y : B) → In (map f xs) y → (x : A) × In xs x × (f x ≡ y)
+pub from_map : {A B : Type 0} (f : A → B) (xs : List A) (y : B) → In (map f xs) y → (x : A) × In xs x × (f x ≡ y)
 from_map f [] y h = absurd h
 from_map f (x ∷ xs) y (inl e) = (x, inl refl, e)
 from_map f (x ∷ xs) y (inr h) = let rest = from_map f xs y h in (rest.0, inr rest.1, rest.2)
 
-in_map : {A B : Type 0} (f : A → B) (xs : List A) (x : A) (y : B) → In xs x → f x ≡ y → In (map f xs) y
+pub in_map : {A B : Type 0} (f : A → B) (xs : List A) (x : A) (y : B) → In xs x → f x ≡ y → In (map f xs) y
 in_map f [] x y h e = absurd h
 in_map f (z ∷ xs) x y (inl same) e = inl (ap f same ∙ e)
 in_map f (z ∷ xs) x y (inr h) e = inr (in_map f xs x y h e)
 
-from_flat_map : {A B : Type 0} (f : A → List B) (xs : List A) (y : B) → In (flat_map f xs) y → (x : A) × In xs x × In (f x) y
+pub from_flat_map : {A B : Type 0} (f : A → List B) (xs : List A) (y : B) → In (flat_map f xs) y → (x : A) × In xs x × In (f x) y
 from_flat_map f [] y h = absurd h
 from_flat_map f (x ∷ xs) y h =
     ⊎_elim (λ l. (x, inl refl, l)) (λ r. let rest = from_flat_map f xs y r in (rest.0, inr rest.1, rest.2)) (in-either (f x) (flat_map f xs) y h)
 
-in_flat_map : {A B : Type 0} (f : A → List B) (xs : List A) (x : A) (y : B) → In xs x → In (f x) y → In (flat_map f xs) y
+pub in_flat_map : {A B : Type 0} (f : A → List B) (xs : List A) (x : A) (y : B) → In xs x → In (f x) y → In (flat_map f xs) y
 in_flat_map f [] x y h k = absurd h
 in_flat_map f (z ∷ xs) x y (inl same) k = in-left (f z) (flat_map f xs) y (subst (λ w. In (f w) y) (sym same) k)
 in_flat_map f (z ∷ xs) x y (inr h) k = in-right (f z) (flat_map f xs) y (in_flat_map f xs x y h k)
 
 -- numbers in rising order, each once
 
-abbrev IsRising : List ℕ → Type 0
+abbrev pub IsRising : List ℕ → Type 0
 IsRising [] = Unit {0}
 IsRising (n ∷ ns) = AllByRecursion (λ m. n < m) ns × IsRising ns
 
@@ -100,7 +100,7 @@ put_once-rising n (m ∷ ms) h = by_tests (nat_lt n m) (n == m) refl refl (put_o
         let apart = eqb-false n m k in
         (each-put_once (λ l. m < l) n ms (omega arith) h.0, rest)
 
-rising-rising : (ns : List ℕ) → IsRising (rising ns)
+pub rising-rising : (ns : List ℕ) → IsRising (rising ns)
 rising-rising [] = tt
 rising-rising (n ∷ ns) = put_once-rising n (rising ns) (rising-rising ns)
 
@@ -131,11 +131,11 @@ in_put_once n (m ∷ ms) x h = by_tests (nat_lt n m) (n == m) refl h (in_put_onc
     by_tests false false e (inr (inl same)) f = inl same
     by_tests false false e (inr (inr k)) f = inr (f (inr k))
 
-from_rising : (ns : List ℕ) (x : ℕ) → In (rising ns) x → In ns x
+pub from_rising : (ns : List ℕ) (x : ℕ) → In (rising ns) x → In ns x
 from_rising [] x h = h
 from_rising (n ∷ ns) x h = ⊎_elim (λ e. inl e) (λ r. inr (from_rising ns x r)) (from_put_once n (rising ns) x h)
 
-in_rising : (ns : List ℕ) (x : ℕ) → In ns x → In (rising ns) x
+pub in_rising : (ns : List ℕ) (x : ℕ) → In ns x → In (rising ns) x
 in_rising [] x h = h
 in_rising (n ∷ ns) x (inl e) = in_put_once n (rising ns) x (inl e)
 in_rising (n ∷ ns) x (inr h) = in_put_once n (rising ns) x (inr (in_rising ns x h))
@@ -177,7 +177,7 @@ belongs_parts window w row h =
 belongs_from : (window : Window) (w : ℕ) (row : Event) → row.start < w → w ≤ row.start + window.size → belongs window w row ≡ true
 belongs_from window w row h k = and_from (nat_lt row.start w) (nat_le w (row.start + window.size)) (lt-ltb row.start w h) (le-leb w (row.start + window.size) k)
 
-from_ends_of : (window : Window) (row : Event) (w : ℕ) → 1 ≤ window.hop → In (ends_of window row) w → ((n : ℕ) × (w ≡ window.hop * n)) × (belongs window w row ≡ true)
+pub from_ends_of : (window : Window) (row : Event) (w : ℕ) → 1 ≤ window.hop → In (ends_of window row) w → ((n : ℕ) × (w ≡ window.hop * n)) × (belongs window w row ≡ true)
 from_ends_of window row w h k =
     let hop = window.hop in
     let to = (row.start + window.size) / hop in
@@ -187,7 +187,7 @@ from_ends_of window row w h k =
     let high : hop * m ≤ row.start + window.size = multiple-le hop m (row.start + window.size) (omega (arith, found.1, found.2)) h in
     ((m, found.3), belongs_from window w row (omega (arith, found.3)) (omega (arith, found.3)))
 
-in_ends_of : (window : Window) (row : Event) (n : ℕ) → 1 ≤ window.hop → belongs window (window.hop * n) row ≡ true → In (ends_of window row) (window.hop * n)
+pub in_ends_of : (window : Window) (row : Event) (n : ℕ) → 1 ≤ window.hop → belongs window (window.hop * n) row ≡ true → In (ends_of window row) (window.hop * n)
 in_ends_of window row n h k =
     let hop = window.hop in
     let parts = belongs_parts window (hop * n) row k in
@@ -198,7 +198,7 @@ in_ends_of window row n h k =
 
 -- the two laws
 
-from_ends : (window : Window) (seen : List Event) (before after w : ℕ) → 1 ≤ window.hop → In (ends window seen before after) w → IsEnd window seen before after w
+from_ends : (window : Window) (seen : List Event) (before after w : ℕ) → 1 ≤ window.hop → In (window_ends window seen before after) w → IsEnd window seen before after w
 from_ends window seen before after w h k =
     let test : ℕ → Bool = λ v. nat_lt before v && nat_le v after in
     let candidates = flat_map (ends_of window) seen in
@@ -209,7 +209,7 @@ from_ends window seen before after w h k =
     let end = from_ends_of window row w h found.2 in
     (ltb-true before w range.0, leb-true w after range.1, end.0, (row, contains_from seen row found.1, end.1))
 
-in_ends : (window : Window) (seen : List Event) (before after w : ℕ) → 1 ≤ window.hop → IsEnd window seen before after w → In (ends window seen before after) w
+in_ends : (window : Window) (seen : List Event) (before after w : ℕ) → 1 ≤ window.hop → IsEnd window seen before after w → In (window_ends window seen before after) w
 in_ends window seen before after w h k =
     let test : ℕ → Bool = λ v. nat_lt before v && nat_le v after in
     let candidates = flat_map (ends_of window) seen in
@@ -223,10 +223,10 @@ in_ends window seen before after w h k =
 
 pub window_ends_have_rows : WindowEndsHaveRows
 window_ends_have_rows window seen before after h = (
-  all_pairs (ends window seen before after) (rising-rising (filter (λ w. nat_lt before w && nat_le w after) (flat_map (ends_of window) seen))),
+  all_pairs (window_ends window seen before after) (rising-rising (filter (λ w. nat_lt before w && nat_le w after) (flat_map (ends_of window) seen))),
   λ w. (
-    λ k. from_ends window seen before after w h (in_from (ends window seen before after) w k),
-    λ k. contains_from (ends window seen before after) w (in_ends window seen before after w h k),
+    λ k. from_ends window seen before after w h (in_from (window_ends window seen before after) w k),
+    λ k. contains_from (window_ends window seen before after) w (in_ends window seen before after w h k),
   ),
 )
 
@@ -234,13 +234,13 @@ pub window_keys_have_rows : WindowKeysHaveRows
 window_keys_have_rows window seen w =
     let mine = filter (belongs window w) seen in
     let key_of : Event → ℕ = λ row. row.key in (
-      all_pairs (keys window seen w) (rising-rising (map key_of mine)),
+      all_pairs (window_keys window seen w) (rising-rising (map key_of mine)),
       λ key. (
         λ k.
-            let found = from_map key_of mine key (from_rising (map key_of mine) key (in_from (keys window seen w) key k)) in
+            let found = from_map key_of mine key (from_rising (map key_of mine) key (in_from (window_keys window seen w) key k)) in
             let kept = from_filter (belongs window w) seen found.0 found.1 in
             (found.0, contains_from seen found.0 kept.0, kept.1, found.2),
-        λ k. contains_from (keys window seen w) key
+        λ k. contains_from (window_keys window seen w) key
             (in_rising (map key_of mine) key (in_map key_of mine k.0 key (in_filter (belongs window w) seen k.0 (in_from seen k.0 k.1) k.2) k.3)),
       ),
     )

@@ -9,8 +9,8 @@ use Rattle.ss_elem.specs.declared.element.Event.{Event}
 use Rattle.ss_elem.specs.declared.element.Element.{Element}
 use Rattle.ss_elem.specs.declared.element.Element.TheVariants.{Row, Cti, End}
 use Rattle.ss_meaning.specs.Bound.{bound_after, bound_past, bound}
-use Rattle.ss_meaning.specs.Segments.{Segment, segment, lengthen, cut, cut_all}
-use Rattle.ss_meaning.specs.Merge.{Arrival, goes_first, put_in, in_order, arrivals, from_input}
+use Rattle.ss_meaning.specs.Segments.{Segment, segment, extend_first_segment, input_segments, all_segments}
+use Rattle.ss_meaning.specs.Merge.{Arrival, goes_first, insert_segment, segments_in_order, arrivals, from_input}
 use Rattle.ss_meaning.specs.Laws.{GoesBefore, LeastBoundGoesNext}
 use Rattle.ss_meaning.proofs.Each.{each_weaker, each-filter}
 use Rattle.ss_meaning.proofs.Prefixes.{from_input-append}
@@ -19,10 +19,10 @@ use Rattle.ss_meaning.proofs.Merging.{is_of, IsFrom, each-put_in, each-in_order,
 
 -- the order of the segments
 
-goes_first-trans : (s t u : Segment) → goes_first s t ≡ true → goes_first t u ≡ true → goes_first s u ≡ true
+pub goes_first-trans : (s t u : Segment) → goes_first s t ≡ true → goes_first t u ≡ true → goes_first s u ≡ true
 goes_first-trans s t u h k = grind (arith, nat_tests)
 
-goes_first-total : (s t : Segment) → goes_first s t ≡ false → goes_first t s ≡ true
+pub goes_first-total : (s t : Segment) → goes_first s t ≡ false → goes_first t s ≡ true
 goes_first-total s t h = grind (arith, nat_tests)
 
 goes_before : (s t : Segment) → goes_first s t ≡ true → GoesBefore s.bound s.input t.bound t.input
@@ -32,21 +32,21 @@ goes_before s t h =
     inr (eqb-true s.bound t.bound parts.0, leb-true s.input t.input parts.1))
     (or_cases (nat_lt s.bound t.bound) (s.bound == t.bound && nat_le s.input t.input) h)
 
-abbrev InOrder : List Segment → Type 0
+abbrev pub InOrder : List Segment → Type 0
 InOrder [] = Unit {0}
 InOrder (s ∷ ss) = AllByRecursion (λ t. goes_first s t ≡ true) ss × InOrder ss
 
-put_in-order : (s : Segment) (ts : List Segment) → InOrder ts → InOrder (put_in s ts)
+put_in-order : (s : Segment) (ts : List Segment) → InOrder ts → InOrder (insert_segment s ts)
 put_in-order s [] h = (tt, tt)
 put_in-order s (t ∷ ts) h = by_test (goes_first s t) refl (put_in-order s ts h.1)
   where
-    by_test : (b : Bool) → goes_first s t ≡ b → InOrder (put_in s ts) → InOrder (cond b (s ∷ t ∷ ts) (t ∷ put_in s ts))
+    by_test : (b : Bool) → goes_first s t ≡ b → InOrder (insert_segment s ts) → InOrder (cond b (s ∷ t ∷ ts) (t ∷ insert_segment s ts))
     by_test true e rest = ((e, each_weaker (λ u. goes_first t u ≡ true) (λ u. goes_first s u ≡ true) (λ u k. goes_first-trans s t u e k) ts h.0), h)
     by_test false e rest = (each-put_in (λ u. goes_first t u ≡ true) s ts (goes_first-total s t e) h.0, rest)
 
-in_order-order : (ss : List Segment) → InOrder (in_order ss)
+pub in_order-order : (ss : List Segment) → InOrder (segments_in_order ss)
 in_order-order [] = tt
-in_order-order (s ∷ ss) = put_in-order s (in_order ss) (in_order-order ss)
+in_order-order (s ∷ ss) = put_in-order s (segments_in_order ss) (in_order-order ss)
 
 -- the first segment of a list, and what stands behind it
 
@@ -57,7 +57,7 @@ record First (input bound : ℕ) (s : Segment) (ss : List Segment) : Type 0 wher
   -- what stands behind the segment, at the bound that it leads to
   rest : List Element
   valid : bound_from (bound_past bound s.elements) rest ≡ Some top
-  behind : ss ≡ cut input (bound_past bound s.elements) rest
+  behind : ss ≡ input_segments input (bound_past bound s.elements) rest
   -- no element of the segment but the last changes the bound
   inside : (front back : List Element) (x : Element) → s.elements ≡ front ++ x ∷ back → bound_past bound front ≡ bound
 
@@ -67,7 +67,7 @@ alone bound y (z ∷ []) back x e = cc
 alone bound y (z ∷ w ∷ front) back x e = cc
 
 -- a segment of one element
-single : (input bound : ℕ) (x : Element) (xs : List Element) → bound < top → bound_from (bound_after bound x) xs ≡ Some top → First input bound (segment input bound (x ∷ [])) (cut input (bound_after bound x) xs)
+single : (input bound : ℕ) (x : Element) (xs : List Element) → bound < top → bound_from (bound_after bound x) xs ≡ Some top → First input bound (segment input bound (x ∷ [])) (input_segments input (bound_after bound x) xs)
 single input bound x xs below valid = record {
   below = below;
   same = refl;
@@ -77,11 +77,11 @@ single input bound x xs below valid = record {
   inside = λ front back y e. alone bound x front back y e;
 }
 
-not_nil : (input bound : ℕ) (xs : List Element) → bound_from bound xs ≡ Some top → cut input bound xs ≡ [] → bound ≡ top
+not_nil : (input bound : ℕ) (xs : List Element) → bound_from bound xs ≡ Some top → input_segments input bound xs ≡ [] → bound ≡ top
 not_nil input bound [] h e = grind arith
-not_nil input bound (Row row ∷ xs) h e = go (cut input bound xs) e
+not_nil input bound (Row row ∷ xs) h e = go (input_segments input bound xs) e
   where
-    go : (ss : List Segment) → lengthen input bound (Row row) ss ≡ [] → bound ≡ top
+    go : (ss : List Segment) → extend_first_segment input bound (Row row) ss ≡ [] → bound ≡ top
     go [] k = cc
     go (s ∷ ss) k = cc
 not_nil input bound (Cti time ∷ xs) h e = cc
@@ -109,14 +109,14 @@ longer_first input bound row s ss f = record {
   inside = longer_inside bound row s.elements f.inside;
 }
 
-cut_first : (input bound : ℕ) (xs : List Element) (s : Segment) (ss : List Segment) → bound_from bound xs ≡ Some top → cut input bound xs ≡ s ∷ ss → First input bound s ss
+cut_first : (input bound : ℕ) (xs : List Element) (s : Segment) (ss : List Segment) → bound_from bound xs ≡ Some top → input_segments input bound xs ≡ s ∷ ss → First input bound s ss
 cut_first input bound [] s ss h e = cc
 cut_first input bound (Row row ∷ xs) s ss h e =
     let first = bound_from-first bound top (Row row) xs h in
-    go (cut input bound xs) refl e (λ t ts k. cut_first input bound xs t ts first.1 k)
+    go (input_segments input bound xs) refl e (λ t ts k. cut_first input bound xs t ts first.1 k)
   where
-    go : (those : List Segment) → cut input bound xs ≡ those → lengthen input bound (Row row) those ≡ s ∷ ss
-        → ((t : Segment) (ts : List Segment) → cut input bound xs ≡ t ∷ ts → First input bound t ts) → First input bound s ss
+    go : (those : List Segment) → input_segments input bound xs ≡ those → extend_first_segment input bound (Row row) those ≡ s ∷ ss
+        → ((t : Segment) (ts : List Segment) → input_segments input bound xs ≡ t ∷ ts → First input bound t ts) → First input bound s ss
     go [] k l f =
         let first = bound_from-first bound top (Row row) xs h in
         let ended = not_nil input bound xs first.1 k in
@@ -128,13 +128,13 @@ cut_first input bound (Row row ∷ xs) s ss h e =
 cut_first input bound (Cti time ∷ xs) s ss h e =
     let first = bound_from-first bound top (Cti time) xs h in
     let a : segment input bound (Cti time ∷ []) ≡ s = cc in
-    let b : cut input time xs ≡ ss = cc in
-    subst (λ those. First input bound s those) b (subst (λ that. First input bound that (cut input time xs)) a (single input bound (Cti time) xs first.0.0 first.1))
+    let b : input_segments input time xs ≡ ss = cc in
+    subst (λ those. First input bound s those) b (subst (λ that. First input bound that (input_segments input time xs)) a (single input bound (Cti time) xs first.0.0 first.1))
 cut_first input bound (End ∷ xs) s ss h e =
     let first = bound_from-first bound top End xs h in
     let a : segment input bound (End ∷ []) ≡ s = cc in
-    let b : cut input top xs ≡ ss = cc in
-    subst (λ those. First input bound s those) b (subst (λ that. First input bound that (cut input top xs)) a (single input bound End xs first.0 first.1))
+    let b : input_segments input top xs ≡ ss = cc in
+    subst (λ those. First input bound s those) b (subst (λ that. First input bound that (input_segments input top xs)) a (single input bound End xs first.0 first.1))
 
 -- where x stands, in the first segment or behind it
 
@@ -195,7 +195,7 @@ elements-arrivals s = go s.elements
 -- what is left of each input, at its bound
 
 abbrev Left : List Segment → ℕ → ℕ → Type 0
-Left ss input bound = (rest : List Element) × (bound_from bound rest ≡ Some top) × (filter (is_of input) ss ≡ cut input bound rest)
+Left ss input bound = (rest : List Element) × (bound_from bound rest ≡ Some top) × (filter (is_of input) ss ≡ input_segments input bound rest)
 
 abbrev AllLeft : ℕ → List Segment → List Arrival → Type 0
 AllLeft inputs ss p = (input : ℕ) → input < inputs → Left ss input (bound (from_input input p))
@@ -312,10 +312,10 @@ goes_next (s ∷ ss) inputs p q rest x order within left e input k =
 
 pub least_bound_goes_next : LeastBoundGoesNext
 least_bound_goes_next inputs whole p rest x e other k =
-    goes_next (in_order (cut_all 0 inputs)) (length inputs) [] p rest x (in_order-order (cut_all 0 inputs)) segments_within
+    goes_next (segments_in_order (all_segments 0 inputs)) (length inputs) [] p rest x (in_order-order (all_segments 0 inputs)) segments_within
     (λ input l. (get_or inputs input [], whole input [] l, segments_of inputs whole input)) e other k
   where
-    segments_within : AllByRecursion (λ (s : Segment). s.input < length inputs) (in_order (cut_all 0 inputs))
+    segments_within : AllByRecursion (λ (s : Segment). s.input < length inputs) (segments_in_order (all_segments 0 inputs))
     segments_within =
-        each_weaker (IsFrom 0 (length inputs)) (λ (s : Segment). s.input < length inputs) (λ s from. omega (arith, from.1)) (in_order (cut_all 0 inputs))
-        (each-in_order (IsFrom 0 (length inputs)) (cut_all 0 inputs) (cut_all-input 0 inputs))
+        each_weaker (IsFrom 0 (length inputs)) (λ (s : Segment). s.input < length inputs) (λ s from. omega (arith, from.1)) (segments_in_order (all_segments 0 inputs))
+        (each-in_order (IsFrom 0 (length inputs)) (all_segments 0 inputs) (cut_all-input 0 inputs))

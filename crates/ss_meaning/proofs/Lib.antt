@@ -10,3 +10,12 @@ pub mod Streams
 pub mod LeastBound
 pub mod Ends
 pub mod Arriving
+pub mod EntryFinds
+pub mod EntryPuts
+pub mod EntryEnds
+pub mod Aggregates
+pub mod EntryLooks
+pub mod EntrySteps
+pub mod JoinSides
+pub mod InputBounds
+pub mod Sorting

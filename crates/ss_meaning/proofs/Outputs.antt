@@ -8,8 +8,8 @@ use Rattle.ss_elem.specs.declared.element.Element.{Element}
 use Rattle.ss_elem.specs.declared.element.Element.TheVariants.{Row, Cti, End}
 use Rattle.ss_meaning.specs.Bound.{bound}
 use Rattle.ss_meaning.specs.Merge.{Arrival, is_from, from_input, merge}
-use Rattle.ss_meaning.specs.Low.{low, mark, advance}
-use Rattle.ss_meaning.specs.Emit.{Kind, Select, Union, Hopping, Join, rows_at, emit, at_each, output}
+use Rattle.ss_meaning.specs.Low.{low, cti_or_end, advance}
+use Rattle.ss_meaning.specs.Emit.{Kind, Select, Union, Hopping, Join, rows_at, emit, given_along, output}
 use Rattle.ss_meaning.specs.Jobs.{IsBefore, Takes}
 use Rattle.ss_meaning.proofs.Each.{each-append}
 use Rattle.ss_meaning.proofs.Prefixes.{from_input-append}
@@ -25,7 +25,7 @@ rows_from q limit [] more h k given = refl
 rows_from q limit (row ∷ rs) more h k given =
     bound_from-cons q (Row row) (map (λ r. Row r) rs ++ more) (h, given.0.0, given.0.1, omega (arith, given.0.2)) ∙ rows_from q limit rs more h k given.1
 
-mark_from : (q q' : ℕ) (more : List Element) → q < q' → q' ≤ top → bound_from q (mark q' ∷ more) ≡ bound_from q' more
+mark_from : (q q' : ℕ) (more : List Element) → q < q' → q' ≤ top → bound_from q (cti_or_end q' ∷ more) ≡ bound_from q' more
 mark_from q q' more h k = by_test (nat_lt q' top) refl
   where
     by_test : (b : Bool) → nat_lt q' top ≡ b → bound_from q (cond b (Cti q') End ∷ more) ≡ bound_from q' more
@@ -37,7 +37,7 @@ mark_from q q' more h k = by_test (nat_lt q' top) refl
 advance_from : (q q' : ℕ) (more : List Element) → q ≤ q' → q' ≤ top → bound_from q (advance q q' ++ more) ≡ bound_from q' more
 advance_from q q' more h k = by_test (nat_lt q q') refl
   where
-    by_test : (b : Bool) → nat_lt q q' ≡ b → bound_from q (cond b (mark q' ∷ []) [] ++ more) ≡ bound_from q' more
+    by_test : (b : Bool) → nat_lt q q' ≡ b → bound_from q (cond b (cti_or_end q' ∷ []) [] ++ more) ≡ bound_from q' more
     by_test true e = mark_from q q' more (ltb-true q q' e) k
     by_test false e =
         let same : q ≡ q' = let least = ltb-false q q' e in omega arith in
@@ -49,7 +49,7 @@ rows_before : (q limit : ℕ) (rs : List Event) → AllByRecursion (IsGiven q li
 rows_before q limit [] given = tt
 rows_before q limit (row ∷ rs) given = ((omega (arith, given.0.1, given.0.2), given.0.2), rows_before q limit rs given.1)
 
-mark_before : (limit q : ℕ) → IsTime limit q → IsBefore limit (mark q)
+mark_before : (limit q : ℕ) → IsTime limit q → IsBefore limit (cti_or_end q)
 mark_before limit q h = by_test (nat_lt q top) refl
   where
     by_test : (b : Bool) → nat_lt q top ≡ b → IsBefore limit (cond b (Cti q) End)
@@ -59,7 +59,7 @@ mark_before limit q h = by_test (nat_lt q top) refl
 advance_before : (limit q q' : ℕ) → IsTime limit q' → AllByRecursion (IsBefore limit) (advance q q')
 advance_before limit q q' h = by_test (nat_lt q q')
   where
-    by_test : (b : Bool) → AllByRecursion (IsBefore limit) (cond b (mark q' ∷ []) [])
+    by_test : (b : Bool) → AllByRecursion (IsBefore limit) (cond b (cti_or_end q' ∷ []) [])
     by_test true = (mark_before limit q' h, tt)
     by_test false = tt
 
@@ -117,15 +117,15 @@ EndsWell q limit xs = (bound_from q xs ≡ Some top) × AllByRecursion (IsBefore
 
 ends_well : (kind : Kind) (inputs time : ℕ) (p rest : List Arrival) → Takes kind inputs → 0 < time → time + 2 ^ 47 ≤ top → AllWhole inputs (p ++ rest)
     → AllByRecursion (λ (x : Arrival). x.input < 0 + inputs) rest → AllByRecursion (IsEarly time) p → AllByRecursion (IsEarly time) rest
-    → EndsWell (low inputs p) (time + 2 ^ 47) (at_each (emit kind inputs) p rest)
+    → EndsWell (low inputs p) (time + 2 ^ 47) (given_along (emit kind inputs) p rest)
 ends_well kind inputs time p [] takes positive h whole within early rest_early =
     (ap Some (low-top inputs p (λ input k. bound_past_is 0 top (from_input input p) (subst (λ (all : List Arrival). Whole (from_input input all)) (append-nil p) (whole input k)))), tt)
 ends_well kind inputs time p (x ∷ xs) takes positive h whole within early rest_early =
     let arrived = arrives inputs time p xs x (omega (arith, within.0)) whole early rest_early.0 in
     let next : AllWhole inputs ((p ++ x ∷ []) ++ xs) = λ input k. subst (λ (all : List Arrival). Whole (from_input input all)) (sym (append_assoc p (x ∷ []) xs)) (whole input k) in
     let rest = ends_well kind inputs time (p ++ x ∷ []) xs takes positive h next within.1 (each-append (IsEarly time) p (x ∷ []) early (rest_early.0, tt)) rest_early.1 in (
-      emit_from kind inputs time p xs x (at_each (emit kind inputs) (p ++ x ∷ []) xs) takes h whole arrived ∙ rest.0,
-      each-append (IsBefore (time + 2 ^ 47)) (emit kind inputs p x) (at_each (emit kind inputs) (p ++ x ∷ []) xs) (emit_before kind inputs time p x takes positive arrived) rest.1,
+      emit_from kind inputs time p xs x (given_along (emit kind inputs) (p ++ x ∷ []) xs) takes h whole arrived ∙ rest.0,
+      each-append (IsBefore (time + 2 ^ 47)) (emit kind inputs p x) (given_along (emit kind inputs) (p ++ x ∷ []) xs) (emit_before kind inputs time p x takes positive arrived) rest.1,
     )
 
 -- what arrives is as early as the inputs

@@ -4,7 +4,7 @@ use Rattle.std.proofs.lemmas.List.{map-append}
 use Rattle.std.proofs.lemmas.List.Elements.{filter-append}
 use Rattle.ss_elem.specs.declared.element.Element.{Element}
 use Rattle.ss_meaning.specs.Merge.{Arrival, from_input, is_from}
-use Rattle.ss_meaning.specs.Emit.{Kind, emit, at_each, output}
+use Rattle.ss_meaning.specs.Emit.{Kind, emit, given_along, output}
 use Rattle.ss_meaning.specs.Meaning.{Vertex, Source, Inner, Sink, vertex, merged}
 use Rattle.ss_meaning.specs.Positions.{out_of}
 use Rattle.ss_meaning.specs.Laws.{PositionsNeverFall, OutNeverFalls, OutputGrowsByEmit, OutputOnlyGrows}
@@ -13,15 +13,15 @@ pub from_input-append : (input : ℕ) (p more : List Arrival) → from_input inp
 from_input-append input p more =
     ap (map (λ (x : Arrival). x.element)) (filter-append (is_from input) p more) ∙ map-append (λ (x : Arrival). x.element) (filter (is_from input) p) (filter (is_from input) more)
 
-pub at_each-append : (give : List Arrival → Arrival → List Element) (p xs ys : List Arrival) → at_each give p (xs ++ ys) ≡ at_each give p xs ++ at_each give (p ++ xs) ys
-at_each-append give p [] ys = ap (λ (seen : List Arrival). at_each give seen ys) (sym (append-nil p))
+pub at_each-append : (give : List Arrival → Arrival → List Element) (p xs ys : List Arrival) → given_along give p (xs ++ ys) ≡ given_along give p xs ++ given_along give (p ++ xs) ys
+at_each-append give p [] ys = ap (λ (seen : List Arrival). given_along give seen ys) (sym (append-nil p))
 at_each-append give p (x ∷ xs) ys =
     ap (λ (rest : List Element). give p x ++ rest) (at_each-append give (p ++ x ∷ []) xs ys)
-    ∙ sym (append_assoc (give p x) (at_each give (p ++ x ∷ []) xs) (at_each give ((p ++ x ∷ []) ++ xs) ys))
-    ∙ ap (λ (seen : List Arrival). (give p x ++ at_each give (p ++ x ∷ []) xs) ++ at_each give seen ys) (append_assoc p (x ∷ []) xs)
+    ∙ sym (append_assoc (give p x) (given_along give (p ++ x ∷ []) xs) (given_along give ((p ++ x ∷ []) ++ xs) ys))
+    ∙ ap (λ (seen : List Arrival). (give p x ++ given_along give (p ++ x ∷ []) xs) ++ given_along give seen ys) (append_assoc p (x ∷ []) xs)
 
 pub output_only_grows : OutputOnlyGrows
-output_only_grows kind inputs p more = (at_each (emit kind inputs) p more, at_each-append (emit kind inputs) [] p more)
+output_only_grows kind inputs p more = (given_along (emit kind inputs) p more, at_each-append (emit kind inputs) [] p more)
 
 pub output_grows_by_emit : OutputGrowsByEmit
 output_grows_by_emit kind inputs p x =

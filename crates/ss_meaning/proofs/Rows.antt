@@ -11,7 +11,7 @@ use Rattle.ss_elem.specs.declared.element.Element.TheVariants.{Row, Cti, End}
 use Rattle.ss_meaning.specs.Bound.{bound_after, bound, row_of, rows}
 use Rattle.ss_meaning.specs.Merge.{Arrival, from_input}
 use Rattle.ss_meaning.specs.Low.{low}
-use Rattle.ss_meaning.specs.Window.{Window, multiples, ends_of, put_once, rising, ends, keys, window_row, window_rows}
+use Rattle.ss_meaning.specs.Window.{Window, multiples, ends_of, put_once, rising, window_ends, window_keys, window_row, window_rows}
 use Rattle.ss_meaning.specs.Join.{matches, joined, joined_from, join_rows}
 use Rattle.ss_meaning.specs.Emit.{Kind, Select, Union, Hopping, Join, Selection, revalued, rows_at}
 use Rattle.ss_meaning.specs.Jobs.{IsBefore, Takes}
@@ -112,7 +112,7 @@ ends_of-le window row h =
 
 -- the ends of a window whose rows all start before a time
 ends_given : (window : Window) (seen : List Event) (q q' time limit : ℕ) → 1 ≤ window.hop → time + (window.size + window.hop) ≤ limit
-    → AllByRecursion (λ (row : Event). row.start < time) seen → AllByRecursion (λ w. (q < w) × (w + window.hop < limit)) (ends window seen q q')
+    → AllByRecursion (λ (row : Event). row.start < time) seen → AllByRecursion (λ w. (q < w) × (w + window.hop < limit)) (window_ends window seen q q')
 ends_given window seen q q' time limit h k early =
     let P : ℕ → Type 0 = λ w. w + window.hop < limit in
     let Q : ℕ → Type 0 = λ w. (q < w) × (w + window.hop < limit) in
@@ -128,16 +128,16 @@ ends_given window seen q q' time limit h k early =
 window_given : (window : Window) (seen : List Event) (q q' time limit : ℕ) → 1 ≤ window.hop → time + (window.size + window.hop) ≤ limit
     → AllByRecursion (λ (row : Event). row.start < time) seen → AllByRecursion (IsGiven q limit) (window_rows window seen q q')
 window_given window seen q q' time limit h k early =
-    each-flat_map (λ w. (q < w) × (w + window.hop < limit)) (IsGiven q limit) (λ w. map (window_row window seen w) (keys window seen w))
-    (λ w at. each-map (IsGiven q limit) (window_row window seen w) (keys window seen w)
-    (each_given (λ key. IsGiven q limit (window_row window seen w key)) (λ key. (omega (arith, at.0), omega arith, at.1)) (keys window seen w)))
-    (ends window seen q q') (ends_given window seen q q' time limit h k early)
+    each-flat_map (λ w. (q < w) × (w + window.hop < limit)) (IsGiven q limit) (λ w. map (window_row window seen w) (window_keys window seen w))
+    (λ w at. each-map (IsGiven q limit) (window_row window seen w) (window_keys window seen w)
+    (each_given (λ key. IsGiven q limit (window_row window seen w key)) (λ key. (omega (arith, at.0), omega arith, at.1)) (window_keys window seen w)))
+    (window_ends window seen q q') (ends_given window seen q q' time limit h k early)
 
 -- join
 
 joined_given : (q limit : ℕ) (left right : Event) → (q ≤ left.start) ⊎ (q ≤ right.start) → (left.end < limit) ⊎ (right.end < limit)
     → left.start < left.end → right.start < right.end → left.start < right.end → right.start < left.end → IsGiven q limit (joined left right)
-joined_given q limit left right starts ends l r lr rl = (omega arith, omega arith, omega arith)
+joined_given q limit left right starts window_ends l r lr rl = (omega arith, omega arith, omega arith)
 
 matching : (q limit input : ℕ) (x y : Event) → IsGiven q limit x → y.start < y.end → matches x y ≡ true → IsGiven q limit (joined_from input x y)
 matching q limit input x y given span same = by_input (input == 0)

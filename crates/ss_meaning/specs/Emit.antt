@@ -30,18 +30,20 @@ revalued select row = record { start = row.start; end = row.end; key = row.key; 
 abbrev pub rows_at : Kind → ℕ → List Arrival → Arrival → List Event
 rows_at (Select select) inputs p x = map (revalued select) (filter select.test (row_of x.element))
 rows_at Union inputs p x = row_of x.element
-rows_at (Hopping window) inputs p x = window_rows window (rows (from_input 0 p)) (low inputs p) (low inputs (p ++ x ∷ []))
+rows_at (Hopping window) inputs p x =
+    window_rows window (rows (from_input 0 p)) (low inputs p) (low inputs (p ++ x ∷ []))
 rows_at Join inputs p x = flat_map (λ row. join_rows x.input row (rows (from_input (1 - x.input) p))) (row_of x.element)
 
 -- all that it gives at x: the rows, and then how far Low rose
 abbrev pub emit : Kind → ℕ → List Arrival → Arrival → List Element
-emit kind inputs p x = map (λ row. Row row) (rows_at kind inputs p x) ++ advance (low inputs p) (low inputs (p ++ x ∷ []))
+emit kind inputs p x =
+    map (λ row. Row row) (rows_at kind inputs p x) ++ advance (low inputs p) (low inputs (p ++ x ∷ []))
 
 -- what a rule gives at each of these, where p arrived before them, joined
-abbrev pub at_each : (List Arrival → Arrival → List Element) → List Arrival → List Arrival → List Element
-at_each give p [] = []
-at_each give p (x ∷ xs) = give p x ++ at_each give (p ++ x ∷ []) xs
+abbrev pub given_along : (List Arrival → Arrival → List Element) → List Arrival → List Arrival → List Element
+given_along give p [] = []
+given_along give p (x ∷ xs) = give p x ++ given_along give (p ++ x ∷ []) xs
 
 -- the output over all that arrived
 abbrev pub output : Kind → ℕ → List Arrival → List Element
-output kind inputs p = at_each (emit kind inputs) [] p
+output kind inputs p = given_along (emit kind inputs) [] p

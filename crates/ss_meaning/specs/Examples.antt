@@ -92,7 +92,9 @@ SumTooGreat =
 -- a sum that leaves the range of values on the way and comes back into it is exact: clamped at each step it would be 0
 abbrev pub SumComesBack : Type 0
 SumComesBack =
-    meaning (over (sums 10 10) (row 1 2 k most 0 ∷ row 2 3 k 7 0 ∷ valued 3 4 k (neg_ℤ (pos most)) (pos 0) ∷ End ∷ [])) 1
+    meaning
+    (over (sums 10 10) (row 1 2 k most 0 ∷ row 2 3 k 7 0 ∷ valued 3 4 k (neg_ℤ (pos most)) (pos 0) ∷ End ∷ []))
+    1
     ≡ row 10 20 k 7 3 ∷ End ∷ []
 
 -- the least of the second value, in three overlapping windows
@@ -102,7 +104,8 @@ LeastOfB =
     (over (Hopping (record { size = 30; hop = 10; aggregate = least; field = λ row. row.b }))
     (row 1 2 k 0 5 ∷ valued 2 3 k (pos 0) (neg_ℤ (pos 3)) ∷ End ∷ []))
     1
-    ≡ valued 10 20 k (neg_ℤ (pos 3)) (pos 2) ∷ valued 20 30 k (neg_ℤ (pos 3)) (pos 2) ∷ valued 30 40 k (neg_ℤ (pos 3)) (pos 2) ∷ End ∷ []
+    ≡ valued 10 20 k (neg_ℤ (pos 3)) (pos 2) ∷ valued 20 30 k (neg_ℤ (pos 3)) (pos 2)
+    ∷ valued 30 40 k (neg_ℤ (pos 3)) (pos 2) ∷ End ∷ []
 
 -- a row joins each earlier row of the other input that it overlaps, also one whose own input is far ahead
 abbrev pub RowsJoinWhereTheyOverlap : Type 0

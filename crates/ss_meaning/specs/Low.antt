@@ -12,9 +12,9 @@ low zero p = top
 low (suc input) p = min (bound (from_input input p)) (low input p)
 
 -- the element that tells this bound
-abbrev pub mark : ℕ → Element
-mark time = if nat_lt time top then Cti time else End
+abbrev pub cti_or_end : ℕ → Element
+cti_or_end time = if nat_lt time top then Cti time else End
 
 -- what is given where Low was one and is now another: nothing where it didn't rise
 abbrev pub advance : ℕ → ℕ → List Element
-advance before after = if nat_lt before after then mark after ∷ [] else []
+advance before after = if nat_lt before after then cti_or_end after ∷ [] else []

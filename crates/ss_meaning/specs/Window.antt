@@ -1,5 +1,6 @@
 -- What a hopping window gives.
-use Rattle.std.specs.Prelude.{ℕ, zero, suc, ◌+◌, ◌-◌, ◌*◌, ◌/◌, ◌==◌, nat_lt, nat_le, Bool, ◌&&◌, if◌then◌else◌, ℤ, pos, ◌+ℤ◌, List, [], ◌∷◌, length, map, filter, flat_map, fold}
+use Rattle.std.specs.Prelude.{ℕ, zero, suc, ◌+◌, ◌-◌, ◌*◌, ◌/◌, ◌==◌, nat_lt, nat_le, Bool, ◌&&◌, if◌then◌else◌, ℤ}
+use Rattle.std.specs.Prelude.{pos, ◌+ℤ◌, List, [], ◌∷◌, length, map, filter, flat_map, fold}
 use Rattle.std.specs.Int.{int_min, int_max, saturate_to_bits}
 use Rattle.ss_elem.specs.declared.element.Event.{Event}
 
@@ -34,8 +35,8 @@ abbrev pub belongs : Window → ℕ → Event → Bool
 belongs window w row = nat_lt row.start w && nat_le w (row.start + window.size)
 
 -- the rows with this key that belong to the window that ends at w
-abbrev pub members : Window → List Event → ℕ → ℕ → List Event
-members window rows w key = filter (λ row. belongs window w row && row.key == key) rows
+abbrev pub window_members : Window → List Event → ℕ → ℕ → List Event
+window_members window rows w key = filter (λ row. belongs window w row && row.key == key) rows
 
 -- count multiples of hop, from the one with this number on
 abbrev pub multiples : ℕ → ℕ → ℕ → List ℕ
@@ -59,20 +60,22 @@ rising [] = []
 rising (n ∷ ns) = put_once n (rising ns)
 
 -- the ends above one bound and up to another of the windows that have a row, in rising order
-abbrev pub ends : Window → List Event → ℕ → ℕ → List ℕ
-ends window rows before after = rising (filter (λ w. nat_lt before w && nat_le w after) (flat_map (ends_of window) rows))
+abbrev pub window_ends : Window → List Event → ℕ → ℕ → List ℕ
+window_ends window rows before after =
+    rising (filter (λ w. nat_lt before w && nat_le w after) (flat_map (ends_of window) rows))
 
 -- the keys of the window that ends at w, in rising order
-abbrev pub keys : Window → List Event → ℕ → List ℕ
-keys window rows w = rising (map (λ row. row.key) (filter (belongs window w) rows))
+abbrev pub window_keys : Window → List Event → ℕ → List ℕ
+window_keys window rows w = rising (map (λ row. row.key) (filter (belongs window w) rows))
 
 -- what the window that ends at w gives for a key: the aggregate, exact and then clamped, and the count
 abbrev pub window_row : Window → List Event → ℕ → ℕ → Event
 window_row window rows w key =
-    let counted = members window rows w key in
-    record { start = w; end = w + window.hop; key = key; a = clamped (window.aggregate (map window.field counted)); b = pos (length counted) }
+    let counted = window_members window rows w key in
+    let value = clamped (window.aggregate (map window.field counted)) in
+    record { start = w; end = w + window.hop; key = key; a = value; b = pos (length counted) }
 
 -- what is given where the bound rises, of all rows so far: window after window, and in each key after key
 abbrev pub window_rows : Window → List Event → ℕ → ℕ → List Event
 window_rows window rows before after =
-    flat_map (λ w. map (window_row window rows w) (keys window rows w)) (ends window rows before after)
+    flat_map (λ w. map (window_row window rows w) (window_keys window rows w)) (window_ends window rows before after)

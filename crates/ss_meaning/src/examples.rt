@@ -1,5 +1,12 @@
-ghost use Rattle.ss_meaning.specs.Examples.{WindowsOverlap, RowWhereAWindowEnds, WindowsFarApart, WindowsAtTheLatestTimes, KeysInOrder, SumTooGreat, SumComesBack, LeastOfB};
-ghost use Rattle.ss_meaning.specs.Examples.{RowsJoinWhereTheyOverlap, SpansThatTouchDoNotJoin, JoinWithItself, ValuesSwap, UnionOfTwo, UnionWithItself, TieOfBounds, JobOfFourIsJob, JobOfFour};
+ghost use Rattle.ss_meaning.specs.Examples.{WindowsOverlap, RowWhereAWindowEnds, WindowsFarApart};
+ghost use Rattle.ss_meaning.specs.Examples.{WindowsAtTheLatestTimes, KeysInOrder, SumTooGreat, SumComesBack};
+ghost use Rattle.ss_meaning.specs.Examples.{LeastOfB};
+ghost use Rattle.ss_meaning.specs.Examples.{RowsJoinWhereTheyOverlap, SpansThatTouchDoNotJoin, JoinWithItself};
+ghost use Rattle.ss_meaning.specs.Examples.{ValuesSwap, UnionOfTwo, UnionWithItself, TieOfBounds, JobOfFourIsJob};
+ghost use Rattle.ss_meaning.specs.Examples.{JobOfFour};
+ghost use Rattle.ss_meaning.specs.EntryExamples.{RowInTwoWindows, EntriesInOrder, NothingAfterEnd};
+ghost use Rattle.ss_meaning.specs.EntryExamples.{SidesByTheOtherBound, EntriesAreCounted, NothingElsewhere};
+ghost use Rattle.ss_meaning.specs.EntryExamples.{ValuePutAtEachEnd, LaterKeyInItsPlace, EntryBecomesRow};
 
 /// What windows give, on small sources.
 pub fn window_examples()
@@ -32,4 +39,21 @@ pub fn merge_examples()
 pub fn job_example()
     ensures is_job { JobOfFourIsJob }
     ensures sink { JobOfFour }
+{}
+
+/// What operators remember of what arrived.
+pub fn entry_examples()
+    ensures row_in_two_windows { RowInTwoWindows }
+    ensures entries_in_order { EntriesInOrder }
+    ensures nothing_after_end { NothingAfterEnd }
+    ensures sides_by_the_other_bound { SidesByTheOtherBound }
+    ensures entries_are_counted { EntriesAreCounted }
+    ensures nothing_elsewhere { NothingElsewhere }
+{}
+
+/// What one more row makes of the entries of a window, and the row that an entry becomes.
+pub fn entry_step_examples()
+    ensures value_put_at_each_end { ValuePutAtEachEnd }
+    ensures later_key_in_its_place { LaterKeyInItsPlace }
+    ensures entry_becomes_row { EntryBecomesRow }
 {}

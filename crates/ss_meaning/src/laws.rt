@@ -1,5 +1,10 @@
-ghost use Rattle.ss_meaning.specs.Laws.{BoundOfValid, MergeKeepsEachInput, ArrivalsFollow, ArrivalsMayFollow, LeastBoundGoesNext, LowIsBelowBounds, LowNeverFalls, LowIsTopAtTheEnd, WindowEndsHaveRows, WindowKeysHaveRows};
-ghost use Rattle.ss_meaning.specs.Laws.{OutputGrowsByEmit, OutputOnlyGrows, PositionsAddUp, PositionsNeverFall, OutNeverFalls, OutAtTheEnd, MeaningByInputs, MeaningIsWhole};
+ghost use Rattle.ss_meaning.specs.Laws.{BoundOfValid, MergeKeepsEachInput, ArrivalsFollow, ArrivalsMayFollow};
+ghost use Rattle.ss_meaning.specs.Laws.{LeastBoundGoesNext, LowIsBelowBounds, LowNeverFalls, LowIsTopAtTheEnd};
+ghost use Rattle.ss_meaning.specs.Laws.{WindowEndsHaveRows, WindowKeysHaveRows};
+ghost use Rattle.ss_meaning.specs.Laws.{OutputGrowsByEmit, OutputOnlyGrows, PositionsAddUp, PositionsNeverFall};
+ghost use Rattle.ss_meaning.specs.Laws.{OutNeverFalls, OutAtTheEnd, MeaningByInputs, MeaningIsWhole};
+ghost use Rattle.ss_meaning.specs.Laws.{BoundsAfterArrival, CountsAfterArrival, LowIsTheLeastBound};
+ghost use Rattle.ss_meaning.specs.Laws.{NextInputArrives, SortedIsInOrder};
 
 /// The bound of a list that keeps the rules of a stream is the one that those rules keep track of.
 pub fn bound_is_that_of_valid_lists()
@@ -57,4 +62,18 @@ pub fn meaning_is_made_of_the_inputs()
 /// The stream of each vertex of each job keeps the rules of a stream, ends, and has times below 2^63.
 pub fn meaning_is_whole()
     ensures { MeaningIsWhole }
+{}
+
+/// The bounds of the inputs tell how far all of them have come and which one goes next, and each arrival changes
+/// the bound and the count of its own input alone.
+pub fn bounds_tell_what_is_next()
+    ensures bounds { BoundsAfterArrival }
+    ensures counts { CountsAfterArrival }
+    ensures low { LowIsTheLeastBound }
+    ensures next { NextInputArrives }
+{}
+
+/// A stable sort of segments by bound and input gives the order in which a merge takes them.
+pub fn sorted_is_in_order()
+    ensures { SortedIsInOrder }
 {}

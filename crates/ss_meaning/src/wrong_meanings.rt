@@ -1,4 +1,5 @@
-ghost use Rattle.ss_meaning.specs.WrongMeanings.{WaitingLongestDiffers, RowsAtTheEndDiffer, WindowsAtEachCtiDiffer, PruningByOwnBoundDiffers, EndingWithTheFirstDiffers};
+ghost use Rattle.ss_meaning.specs.WrongMeanings.{WaitingLongestDiffers, RowsAtTheEndDiffer, WindowsAtEachCtiDiffer};
+ghost use Rattle.ss_meaning.specs.WrongMeanings.{PruningByOwnBoundDiffers, EndingWithTheFirstDiffers};
 
 /// Meanings that come near the right one, and an example on which each of them differs from it.
 pub fn wrong_meanings_differ()

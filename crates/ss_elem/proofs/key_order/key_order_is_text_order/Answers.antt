@@ -1,5 +1,6 @@
-use Rattle.ss_elem.proofs.KeyOrder.{key_order}
+use Rattle.std.proofs.Common.{refl}
+use Rattle.ss_elem.proofs.KeyOrder.{compare_texts}
 use Rattle.ss_elem.proofs.key_order.key_order_is_text_order.Goals as goal
 
 pub returns : goal.returns
-returns c = key_order
+returns c = record { texts = compare_texts; numbers = λ x y hx hy. refl }
