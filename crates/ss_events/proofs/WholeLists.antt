@@ -13,7 +13,7 @@ use Rattle.ss_elem.specs.declared.element.Event.{Event}
 use Rattle.ss_events.specs.Numbers.{is_decimal, time_of}
 use Rattle.ss_events.specs.Fields.{check, has_count, is_padding, key_at, or_fault, time_at, value_at, value_or_zero_at}
 use Rattle.ss_events.specs.Rows.{◌>>=◌, Given, cti_given, cti_row, end_row, event_given, event_of, event_row, is_header, kind_of, late_given, row_after, row_by, row_given}
-use Rattle.ss_events.specs.Events.{AllSourceTimes, Gives, HasSourceTimes, event_list, elements_from, ending, in_row, most_rows, row_at}
+use Rattle.ss_events.specs.Events.{AllSourceTimes, AnswersReading, HasSourceTimes, event_list, elements_from, ending, in_row, most_rows, row_at}
 use Rattle.ss_events.specs.declared.fault.EventFault.{EventFault}
 use Rattle.ss_events.specs.declared.fault.EventWhy.{EventWhy}
 use Rattle.ss_events.specs.declared.fault.EventWhy.TheVariants.{AfterEnd, BackwardCti, EmptySpan, TooManyRows}
@@ -212,7 +212,7 @@ whole-from late (fields ∷ rows) number bound low =
 
 -- what holds of a list holds of the reader's answer that gives it
 pub of-answer : {X Y : Type 0} (view : X → Y) (P : Y → Type 0) (answer : Result X EventsFault) (read : Result Y EventFault)
-    → Gives view answer read → IfOk read P → IfOk answer (λ x. P (view x))
+    → AnswersReading view answer read → IfOk read P → IfOk answer (λ x. P (view x))
 of-answer view P (Ok x) read gives holds = subst (λ (r : Result _ EventFault). IfOk r P) gives holds
 of-answer view P (Err (At fault)) read gives holds = tt
 of-answer view P (Err Memory) read gives holds = tt

@@ -45,10 +45,10 @@ abbrev pub event_list : List ℕ → Late → Result (List Element) EventFault
 event_list bytes late = elements_from late (records_of bytes) 1 0
 
 -- what a reader answered, seen by view, is this list or fault, unless memory ran out
-abbrev pub Gives : {X Y : Type 0} → (X → Y) → Result X EventsFault → Result Y EventFault → Type 0
-Gives view (Ok x) read = read ≡ Ok (view x)
-Gives view (Err (At fault)) read = read ≡ Err fault
-Gives view (Err Memory) read = Unit {0}
+abbrev pub AnswersReading : {X Y : Type 0} → (X → Y) → Result X EventsFault → Result Y EventFault → Type 0
+AnswersReading view (Ok x) read = read ≡ Ok (view x)
+AnswersReading view (Err (At fault)) read = read ≡ Err fault
+AnswersReading view (Err Memory) read = Unit {0}
 
 -- every time of the element is one that an event file may have
 abbrev pub HasSourceTimes : Element → Type 0

@@ -1,7 +1,7 @@
 ghost use Rattle.std.specs.Prelude.{◌≡◌, ◌++◌, IfErr, IfOk, Ok};
 ghost use Rattle.std.specs.Option.{option_to_list};
 ghost use Rattle.ss_elem.specs.Validity.{Whole};
-ghost use Rattle.ss_events.specs.Events.{AllSourceTimes, Gives, ending, event_list};
+ghost use Rattle.ss_events.specs.Events.{AllSourceTimes, AnswersReading, ending, event_list};
 ghost use Rattle.ss_events.specs.declared.fault.EventsFault.TheVariants.{Memory};
 
 use crate::fault::{EventFault, EventWhy, EventsFault};
@@ -21,7 +21,7 @@ const MOST_ROWS: u64 = 131_072;
 /// or the same without `b`. Times are below 2^62, values in `i64`, and a file has at most 131,072 rows. A
 /// `cti` with the time of the last one gives no element, and a list without an `end` is ended all the same.
 pub fn read_events(alloc: Global, bytes: &[u8], late: Late) -> Result<Vec<Element>, EventsFault>
-    ensures exact { Gives (λ list. list.items) result (event_list bytes.now late) }
+    ensures exact { AnswersReading (λ list. list.items) result (event_list bytes.now late) }
     ensures whole { IfOk result (λ list. Whole list.items) }
     ensures times { IfOk result (λ list. AllSourceTimes list.items) }
 {
@@ -29,7 +29,7 @@ pub fn read_events(alloc: Global, bytes: &[u8], late: Late) -> Result<Vec<Elemen
 }
 
 fn read_rows(alloc: Global, bytes: &[u8], late: Late) -> Result<Vec<Element>, EventsFault>
-    ensures { Gives (λ list. list.items) result (event_list bytes.now late) }
+    ensures { AnswersReading (λ list. list.items) result (event_list bytes.now late) }
 {
     let mut records = Records::new(alloc, bytes);
     let mut row = ByteRecord::new(alloc);
@@ -69,7 +69,7 @@ fn push_given(list: &mut Vec<Element>, given: Option<Element>) -> Result<(), Eve
 
 // The list with an end, which no row gave where the bound isn't the one after an end.
 fn ended(mut list: Vec<Element>, bound: Bound) -> Result<Vec<Element>, EventsFault>
-    ensures { Gives (λ ended. ended.items) result (Ok (list.items ++ ending bound)) }
+    ensures { AnswersReading (λ ended. ended.items) result (Ok (list.items ++ ending bound)) }
 {
     if bound != Bound::TOP && list.push(Element::End).is_err() {
         return Err(EventsFault::Memory);

@@ -46,7 +46,8 @@ impl<'a> Records<'a> {
 
     /// Takes the next record into `row`, and says whether there was one.
     pub(crate) fn next(&mut self, row: &mut ByteRecord) -> Result<bool, EventsFault>
-        ensures found { IfOk result (λ found. MatchBool found (self.old ≡ fields_of row.new ∷ self.new) (self.old ≡ [])) }
+        ensures found { IfOk result (λ found.
+            MatchBool found (self.old ≡ fields_of row.new ∷ self.new) (self.old ≡ [])) }
         ensures memory { IfErr result (λ e. e ≡ Memory) }
     {
         if !self.between {

@@ -2,11 +2,11 @@
 use Rattle.std.proofs.Common.{if◌then◌else◌, ◌≡◌, ℕ, ◌≤◌, ◌⊎◌, inl, inr, Bool, true, false, List, [], ◌∷◌, length, Option, Some, None, Result, Ok, Err, nat_lt, refl, ap, sym, subst, ◌∙◌, arith}
 use Rattle.std.proofs.lemmas.Bool.{cond-false, ltb-true}
 use Rattle.std.proofs.lemmas.Bool.Decides.{nat_tests}
-use Rattle.ss_expr.specs.Answers.{Fails, Gives}
+use Rattle.ss_expr.specs.Answers.{IsFaultOfReading, AnswersReading}
 use Rattle.ss_expr.specs.Expressions.{scanned, IsExpression, FaultAt, IsFault}
 use Rattle.ss_expr.specs.Grammar.{Begins, Spells}
 use Rattle.ss_expr.specs.Limits.{most_bytes, most_levels}
-use Rattle.ss_expr.specs.Reading.{close, ◌>>=◌, expression_of, finish, finish_at, read_from, run, start, unbroken, whole}
+use Rattle.ss_expr.specs.Reading.{close, ◌>>=◌, expression_of, finish, finish_at, read_from, run, start, unbroken, tree_if_complete}
 use Rattle.ss_expr.specs.Tree.{Tree}
 use Rattle.ss_expr.specs.declared.fault.ExprFault.{ExprFault}
 use Rattle.ss_expr.specs.declared.fault.ExprWhy.{ExprWhy}
@@ -41,7 +41,7 @@ unbroken_err (Some f) x g h =
     let same : f ≡ g = cc in
     ap (λ (y : ExprFault). Some y) same
 
-whole_err : (stack : List Frame) (tree : Option Tree) (size : ℕ) (g : ExprFault) → whole stack tree size ≡ Err g → g ≡ record { at = size; why = Unexpected }
+whole_err : (stack : List Frame) (tree : Option Tree) (size : ℕ) (g : ExprFault) → tree_if_complete stack tree size ≡ Err g → g ≡ record { at = size; why = Unexpected }
 whole_err [] None size g h = cc
 whole_err [] (Some e) size g h = cc
 whole_err (frame ∷ below) tree size g h = cc
@@ -153,12 +153,12 @@ pub fault_is : (text : List ℕ) (g : ExprFault) → expression_of text ≡ Err 
 fault_is text g h = fault_when text (nat_lt most_bytes (length text)) g refl h
 
 -- an answer that is the reading's is also that of the expression
-pub only_is : (text bytes : List ℕ) (r : Result Tree ParseFault) → bytes ≡ text → Gives r (expression_of bytes) → (e : Tree) → IsExpression text e → Gives r (Ok e)
+pub only_is : (text bytes : List ℕ) (r : Result Tree ParseFault) → bytes ≡ text → AnswersReading r (expression_of bytes) → (e : Tree) → IsExpression text e → AnswersReading r (Ok e)
 only_is text bytes r same given e is =
-    subst (λ (reading : Result Tree ExprFault). Gives r reading) (ap expression_of same ∙ expression_is_read text e is) given
+    subst (λ (reading : Result Tree ExprFault). AnswersReading r reading) (ap expression_of same ∙ expression_is_read text e is) given
 
 -- and so is a fault
-pub refused_is : (text : List ℕ) (fault : ParseFault) → Fails fault (expression_of text) → IsFault text fault
+pub refused_is : (text : List ℕ) (fault : ParseFault) → IsFaultOfReading fault (expression_of text) → IsFault text fault
 refused_is text Memory h = tt
 refused_is text (At g) h = fault_is text g h
 

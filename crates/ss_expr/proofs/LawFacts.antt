@@ -1,6 +1,6 @@
 -- The laws of the grammar.
 use Rattle.std.proofs.Common.{◌≡◌, ◌≤◌, Ok, Result, refl, sym, ◌∙◌, arith, le_trans}
-use Rattle.ss_expr.specs.Grammar.{Form, single, bracketed, prefixed, joined, form_binding, IsFormed, tree_of}
+use Rattle.ss_expr.specs.Grammar.{Form, single, bracketed, prefixed, joined, form_binding, IsFormed, tree_of_form}
 use Rattle.ss_expr.specs.Laws.{OneExpression, IsClosed, HasAllBrackets, BracketsKeepTheTree}
 use Rattle.ss_expr.specs.Tree.{Tree}
 use Rattle.ss_expr.specs.declared.fault.ExprFault.{ExprFault}
@@ -34,7 +34,7 @@ all_formed (joined op at l r) h =
 
 pub brackets_keep : BracketsKeepTheTree
 brackets_keep text f brackets within short unbroken printed =
-    expression_is_read text (tree_of f) (record {
+    expression_is_read text (tree_of_form f) (record {
       short = short;
       unbroken = unbroken;
       spelled = record { form = f; of = record { formed = all_formed f brackets; within = within; printed = printed }; tree = refl };

@@ -1,6 +1,6 @@
 -- Tokens at other places form the same, at those places.
 use Rattle.std.proofs.Common.{◌≡◌, ◌≤◌, ℕ, ◌+◌, max, List, [], ◌∷◌, ◌++◌, refl, ap, sym, ◌∙◌, subst}
-use Rattle.ss_expr.specs.Grammar.{Form, single, bracketed, prefixed, joined, print, unary_token, tree_of, form_binding, left_binding, right_binding, unary_binding, IsFormed, levels}
+use Rattle.ss_expr.specs.Grammar.{Form, single, bracketed, prefixed, joined, print, unary_token, tree_of_form, form_binding, left_binding, right_binding, unary_binding, IsFormed, levels}
 use Rattle.ss_expr.specs.Printing.{kinds_of, unplaced}
 use Rattle.ss_expr.specs.Tree.{Tree, unary, binary}
 use Rattle.ss_expr.specs.declared.token.Token.{Token}
@@ -48,7 +48,7 @@ halves_of (x ∷ xs) ys ps h =
 pub record Moved (f : Form) (ps : List Placed) : Type 0 where
   pub form : Form
   pub printed : print form ≡ ps
-  pub tree : unplaced (tree_of form) ≡ unplaced (tree_of f)
+  pub tree : unplaced (tree_of_form form) ≡ unplaced (tree_of_form f)
   pub binds : form_binding form ≡ form_binding f
   pub formed : IsFormed f → IsFormed form
   pub deep : levels form ≡ levels f
@@ -94,7 +94,7 @@ moved (joined op at l r) ps h =
     record {
       form = joined op p.at left.form right.form;
       printed = ap (λ (qs : List Placed). qs ++ between ∷ print right.form) left.printed ∙ ap (λ (qs : List Placed). s.first ++ between ∷ qs) right.printed ∙ ap (λ (qs : List Placed). s.first ++ qs) p.is ∙ s.is;
-      tree = ap (λ (e : Tree). binary op 0 e (unplaced (tree_of right.form))) left.tree ∙ ap (λ (e : Tree). binary op 0 (unplaced (tree_of l)) e) right.tree;
+      tree = ap (λ (e : Tree). binary op 0 e (unplaced (tree_of_form right.form))) left.tree ∙ ap (λ (e : Tree). binary op 0 (unplaced (tree_of_form l)) e) right.tree;
       binds = refl;
       formed = λ h. (subst (λ n. left_binding op ≤ n) (sym left.binds) h.0, subst (λ n. right_binding op ≤ n) (sym right.binds) h.1, left.formed h.2, right.formed h.3);
       deep = ap (λ (n : ℕ). max n (levels right.form)) left.deep ∙ ap (λ (n : ℕ). max (levels l) n) right.deep;

@@ -1,7 +1,7 @@
 -- A tree that is written out with all its brackets is read as that tree.
 use Rattle.std.proofs.Common.{◌≡◌, ◌≤◌, [], ◌∷◌, refl, ap, sym, subst, ◌∙◌}
 use Rattle.ss_expr.specs.Expressions.{scanned}
-use Rattle.ss_expr.specs.Grammar.{Form, bracketed, print, tree_of, unary_token}
+use Rattle.ss_expr.specs.Grammar.{Form, bracketed, print, tree_of_form, unary_token}
 use Rattle.ss_expr.specs.Laws.{HasAllBrackets, PrintedIsRead}
 use Rattle.ss_expr.specs.Limits.{most_levels}
 use Rattle.ss_expr.specs.Printing.{kinds_of, AllWritable, with_brackets, text_of, unplaced}
@@ -21,10 +21,10 @@ brackets_all (leaf at a) = tt
 brackets_all (unary op at e) = (tt, brackets_all e)
 brackets_all (binary op at l r) = (tt, tt, brackets_all l, brackets_all r)
 
-same_tree : (e : Tree) → tree_of (with_brackets e) ≡ e
+same_tree : (e : Tree) → tree_of_form (with_brackets e) ≡ e
 same_tree (leaf at a) = refl
 same_tree (unary op at e) = ap (unary op at) (same_tree e)
-same_tree (binary op at l r) = ap (λ (x : Tree). binary op at x (tree_of (with_brackets r))) (same_tree l) ∙ ap (binary op at l) (same_tree r)
+same_tree (binary op at l r) = ap (λ (x : Tree). binary op at x (tree_of_form (with_brackets r))) (same_tree l) ∙ ap (binary op at l) (same_tree r)
 
 unary_readable : (op : UnaryOp) → Readable (unary_token op)
 unary_readable Not = not_readable
@@ -50,8 +50,8 @@ printed_is_read e writable within short =
     let f = with_brackets e in
     let read = scan_written (kinds_of (print f)) (tokens_readable e writable) 0 in
     let m = moved f (scanned (text_of e)).tokens read.0 in (
-      tree_of m.form,
-      expression_is_read (text_of e) (tree_of m.form) (record {
+      tree_of_form m.form,
+      expression_is_read (text_of e) (tree_of_form m.form) (record {
         short = short;
         unbroken = read.1;
         spelled = record {

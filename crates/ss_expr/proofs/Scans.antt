@@ -1,7 +1,7 @@
 -- Reading a text byte by byte.
 use Rattle.std.proofs.Common.{◌≡◌, ℕ, zero, suc, ◌+◌, ◌-◌, ◌<◌, false, List, ◌∷◌, length, length-drop, drop, take, take_all, get_or, Result, Ok, Err, ap, sym, ◌∙◌, arith, drop-cons, add-one}
 use Rattle.std.proofs.lemmas.Bool.{cond-false}
-use Rattle.ss_expr.specs.Answers.{Fails}
+use Rattle.ss_expr.specs.Answers.{IsFaultOfReading}
 use Rattle.ss_expr.specs.Limits.{most_levels}
 use Rattle.ss_expr.specs.Reading.{◌>>=◌, fault_at, finish, read_from, run, step, unbroken}
 use Rattle.ss_expr.specs.Tokens.{is_blank, scan, Scanned, token_at, token_then}
@@ -63,8 +63,8 @@ read_refused text at size len found p fault inside h is refused =
 
 -- a token that is refused, or for which memory ran out
 pub read_stopped : (text : List ℕ) (at size len : ℕ) (found : Token) (p : Parser) (e : ParseFault) → at < length text → is_blank (get_or text at 0) ≡ false → token_at (drop at text) ≡ Ok (found, len)
-    → Fails e (fault_at at (step most_levels p (record { at = at; token = found })))
-    → Fails e (read_from size (scan (drop at text) at 0) p)
+    → IsFaultOfReading e (fault_at at (step most_levels p (record { at = at; token = found })))
+    → IsFaultOfReading e (read_from size (scan (drop at text) at 0) p)
 read_stopped text at size len found p Memory inside h is refused = tt
 read_stopped text at size len found p (At fault) inside h is refused = read_refused text at size len found p fault inside h is refused
 

@@ -1,8 +1,8 @@
 -- What the reader took is the beginning of a form, and a whole form where it finishes.
 use Rattle.std.proofs.Common.{if◌then◌else◌, ◌≡◌, ℕ, ◌+◌, ◌≤◌, Bool, true, false, List, [], ◌∷◌, ◌++◌, Some, Result, Ok, Err, nat_le, nat_lt, refl, ap, sym, subst, ◌∙◌, arith, append_assoc, append-nil, zero-le, le_trans, le_refl}
 use Rattle.std.proofs.lemmas.Bool.{cond-true, cond-false, ltb-true, leb-true}
-use Rattle.ss_expr.specs.Grammar.{Form, single, bracketed, prefixed, joined, unary_token, print, tree_of, unary_binding, binding, left_binding, right_binding, form_binding, IsFormed, levels, Begins, Spells}
-use Rattle.ss_expr.specs.Reading.{wanted, open_levels, wanting, holding, close, deepen, take_minus, take_operand, take_operator, put_operator, close_bracket, step, ◌>>=◌, fault_at, run, whole, finish, start}
+use Rattle.ss_expr.specs.Grammar.{Form, single, bracketed, prefixed, joined, unary_token, print, tree_of_form, unary_binding, binding, left_binding, right_binding, form_binding, IsFormed, levels, Begins, Spells}
+use Rattle.ss_expr.specs.Reading.{wanted, open_levels, wanting, holding, close, deepen, take_minus, take_operand, take_operator, put_operator, close_bracket, step, ◌>>=◌, fault_at, run, tree_if_complete, finish, start}
 use Rattle.ss_expr.specs.Tree.{Tree, leaf, unary, binary}
 use Rattle.ss_expr.specs.declared.atom.Atom.TheVariants as atom
 use Rattle.ss_expr.specs.declared.operators.UnaryOp.{UnaryOp}
@@ -31,7 +31,7 @@ abbrev pub frames_of : List Part → List Frame
 frames_of [] = []
 frames_of (bracket_part at ∷ below) = Open ∷ frames_of below
 frames_of (prefix_part op at ∷ below) = Prefix op at ∷ frames_of below
-frames_of (left_part op at l ∷ below) = Left op at (tree_of l) ∷ frames_of below
+frames_of (left_part op at l ∷ below) = Left op at (tree_of_form l) ∷ frames_of below
 
 abbrev pub opener : ℕ → Placed
 opener at = record { at = at; token = token.Open }
@@ -71,7 +71,7 @@ pub record Held (most : ℕ) (tokens : List Placed) (parts : List Part) (f : For
 pub record Closed (most : ℕ) (tokens : List Placed) (stack : List Frame) (e : Tree) (least : ℕ) : Type 0 where
   pub parts : List Part
   pub form : Form
-  pub is : close stack least e ≡ holding (frames_of parts) (tree_of form)
+  pub is : close stack least e ≡ holding (frames_of parts) (tree_of_form form)
   pub held : Held most tokens parts form least
 
 closes_prefix : {most : ℕ} {tokens : List Placed} {op : UnaryOp} {at : ℕ} {below : List Part} {f : Form} {least : ℕ} → Held most tokens (prefix_part op at ∷ below) f least → least ≤ unary_binding op → Held most tokens below (prefixed op at f) least
@@ -96,26 +96,26 @@ closes_left {most} {tokens} {op} {at} {l} {below} {f} {least} h le = record {
 
 prefix_closed : (most : ℕ) (tokens : List Placed) (op : UnaryOp) (at : ℕ) (below : List Part) (f : Form) (least : ℕ) (b : Bool) → nat_le least (unary_binding op) ≡ b
     → Held most tokens (prefix_part op at ∷ below) f least
-    → (least ≤ unary_binding op → Closed most tokens (frames_of below) (unary op at (tree_of f)) least)
-    → Closed most tokens (Prefix op at ∷ frames_of below) (tree_of f) least
+    → (least ≤ unary_binding op → Closed most tokens (frames_of below) (unary op at (tree_of_form f)) least)
+    → Closed most tokens (Prefix op at ∷ frames_of below) (tree_of_form f) least
 prefix_closed most tokens op at below f least true e h next =
     let r = next (leb-true least (unary_binding op) e) in
-    record { parts = r.parts; form = r.form; is = cond-true (nat_le least (unary_binding op)) (close (frames_of below) least (unary op at (tree_of f))) (holding (Prefix op at ∷ frames_of below) (tree_of f)) e ∙ r.is; held = r.held }
+    record { parts = r.parts; form = r.form; is = cond-true (nat_le least (unary_binding op)) (close (frames_of below) least (unary op at (tree_of_form f))) (holding (Prefix op at ∷ frames_of below) (tree_of_form f)) e ∙ r.is; held = r.held }
 prefix_closed most tokens op at below f least false e h next =
-    record { parts = prefix_part op at ∷ below; form = f; is = cond-false (nat_le least (unary_binding op)) (close (frames_of below) least (unary op at (tree_of f))) (holding (Prefix op at ∷ frames_of below) (tree_of f)) e; held = h }
+    record { parts = prefix_part op at ∷ below; form = f; is = cond-false (nat_le least (unary_binding op)) (close (frames_of below) least (unary op at (tree_of_form f))) (holding (Prefix op at ∷ frames_of below) (tree_of_form f)) e; held = h }
 
 left_closed : (most : ℕ) (tokens : List Placed) (op : BinaryOp) (at : ℕ) (l : Form) (below : List Part) (f : Form) (least : ℕ) (b : Bool) → nat_le least (binding op) ≡ b
     → Held most tokens (left_part op at l ∷ below) f least
-    → (least ≤ binding op → Closed most tokens (frames_of below) (binary op at (tree_of l) (tree_of f)) least)
-    → Closed most tokens (Left op at (tree_of l) ∷ frames_of below) (tree_of f) least
+    → (least ≤ binding op → Closed most tokens (frames_of below) (binary op at (tree_of_form l) (tree_of_form f)) least)
+    → Closed most tokens (Left op at (tree_of_form l) ∷ frames_of below) (tree_of_form f) least
 left_closed most tokens op at l below f least true e h next =
     let r = next (leb-true least (binding op) e) in
-    record { parts = r.parts; form = r.form; is = cond-true (nat_le least (binding op)) (close (frames_of below) least (binary op at (tree_of l) (tree_of f))) (holding (Left op at (tree_of l) ∷ frames_of below) (tree_of f)) e ∙ r.is; held = r.held }
+    record { parts = r.parts; form = r.form; is = cond-true (nat_le least (binding op)) (close (frames_of below) least (binary op at (tree_of_form l) (tree_of_form f))) (holding (Left op at (tree_of_form l) ∷ frames_of below) (tree_of_form f)) e ∙ r.is; held = r.held }
 left_closed most tokens op at l below f least false e h next =
-    record { parts = left_part op at l ∷ below; form = f; is = cond-false (nat_le least (binding op)) (close (frames_of below) least (binary op at (tree_of l) (tree_of f))) (holding (Left op at (tree_of l) ∷ frames_of below) (tree_of f)) e; held = h }
+    record { parts = left_part op at l ∷ below; form = f; is = cond-false (nat_le least (binding op)) (close (frames_of below) least (binary op at (tree_of_form l) (tree_of_form f))) (holding (Left op at (tree_of_form l) ∷ frames_of below) (tree_of_form f)) e; held = h }
 
 -- closing frames keeps the tokens
-pub close-held : (parts : List Part) (f : Form) (least most : ℕ) (tokens : List Placed) → Held most tokens parts f least → Closed most tokens (frames_of parts) (tree_of f) least
+pub close-held : (parts : List Part) (f : Form) (least most : ℕ) (tokens : List Placed) → Held most tokens parts f least → Closed most tokens (frames_of parts) (tree_of_form f) least
 close-held [] f least most tokens h = record { parts = []; form = f; is = refl; held = h }
 close-held (bracket_part at ∷ below) f least most tokens h = record { parts = bracket_part at ∷ below; form = f; is = refl; held = h }
 close-held (prefix_part op at ∷ below) f least most tokens h =
@@ -126,7 +126,7 @@ close-held (left_part op at l ∷ below) f least most tokens h =
 -- the tokens that were taken, and what the reader made of them
 pub data Reached (most : ℕ) (tokens : List Placed) : Parser → Type 0 where
   wants : (parts : List Part) → Stands most parts → open_levels (frames_of parts) ≤ most → spelled parts ≡ tokens → Reached most tokens (wanting (frames_of parts))
-  holds : (parts : List Part) (f : Form) → Held most tokens parts f 7 → Reached most tokens (holding (frames_of parts) (tree_of f))
+  holds : (parts : List Part) (f : Form) → Held most tokens parts f 7 → Reached most tokens (holding (frames_of parts) (tree_of_form f))
 
 guarded : {A E : Type 0} (b : Bool) (x y : A) (e : E) → (if b then Ok x else Err e) ≡ Ok y → (b ≡ true) × (x ≡ y)
 guarded true x y e h = (refl, cc)
@@ -215,15 +215,15 @@ loosened : {most : ℕ} {tokens : List Placed} {parts : List Part} {f : Form} (l
 loosened least le h = record { stands = h.stands; formed = h.formed; fits = h.fits; tight = le_trans le h.tight; within = h.within; spelt = h.spelt }
 
 put_behind : (most : ℕ) (tokens : List Placed) (op : BinaryOp) (at : ℕ) (parts : List Part) (f : Form) (q : Parser) → Held most tokens parts f (left_binding op)
-    → put_operator op at (frames_of parts) (Some (tree_of f)) ≡ Ok q → Reached most (tokens ++ between_sign op at ∷ []) q
+    → put_operator op at (frames_of parts) (Some (tree_of_form f)) ≡ Ok q → Reached most (tokens ++ between_sign op at ∷ []) q
 put_behind most tokens op at parts f q h e =
-    let g = guarded (nat_le (wanted (frames_of parts)) (binding op)) (wanting (Left op at (tree_of f) ∷ frames_of parts)) q Unexpected e in
+    let g = guarded (nat_le (wanted (frames_of parts)) (binding op)) (wanting (Left op at (tree_of_form f) ∷ frames_of parts)) q Unexpected e in
     let low = leb-true (wanted (frames_of parts)) (binding op) g.0 in
     let same = sym (append_assoc (spelled parts) (print f) (between_sign op at ∷ [])) ∙ ap (λ (ts : List Placed). ts ++ between_sign op at ∷ []) h.spelt in
     along g.1 (wants (left_part op at f ∷ parts) (low, h.tight, h.within, h.formed, h.stands) (omega (arith, h.within)) same)
 
 closed_bracket : (most : ℕ) (tokens : List Placed) (at : ℕ) (parts : List Part) (f : Form) (q : Parser) → Held most tokens parts f 0
-    → close_bracket (frames_of parts) (Some (tree_of f)) ≡ Ok q → Reached most (tokens ++ closer at ∷ []) q
+    → close_bracket (frames_of parts) (Some (tree_of_form f)) ≡ Ok q → Reached most (tokens ++ closer at ∷ []) q
 closed_bracket most tokens at [] f q h e = cc
 closed_bracket most tokens at (prefix_part op from ∷ below) f q h e = cc
 closed_bracket most tokens at (left_part op from l ∷ below) f q h e = cc
@@ -237,11 +237,11 @@ closed_bracket most tokens at (bracket_part from ∷ below) f q h e =
       within = omega (arith, h.within);
       spelt = sym (append_assoc (spelled below) (opener from ∷ print f) (closer at ∷ []) ∙ refl) ∙ ap (λ (ts : List Placed). ts ++ closer at ∷ []) (sym (append_assoc (spelled below) (opener from ∷ []) (print f)) ∙ h.spelt);
     } in
-    let same : holding (frames_of below) (tree_of f) ≡ q = cc in
+    let same : holding (frames_of below) (tree_of_form f) ≡ q = cc in
     along same (holds below (bracketed from f at) held)
 
 took_operator : (most : ℕ) (tokens : List Placed) (parts : List Part) (f : Form) (at : ℕ) (t : Token) (q : Parser) → Held most tokens parts f 7
-    → take_operator (frames_of parts) (tree_of f) at t ≡ Ok q → Reached most (tokens ++ record { at = at; token = t } ∷ []) q
+    → take_operator (frames_of parts) (tree_of_form f) at t ≡ Ok q → Reached most (tokens ++ record { at = at; token = t } ∷ []) q
 took_operator most tokens parts f at (token.Operator op) q h e =
     let c = close-held parts f (left_binding op) most tokens (loosened (left_binding op) (left-le-7 op) h) in
     put_behind most tokens op at c.parts c.form q c.held (sym (ap (λ (p : Parser). put_operator op at p.stack p.tree) c.is) ∙ e)
@@ -331,7 +331,7 @@ reached-begins most tokens (holds parts f held) = (
 )
 
 -- the tokens that were taken spell the tree where the reader finishes
-whole_form : (most size : ℕ) (tokens : List Placed) (parts : List Part) (f : Form) (e : Tree) → Held most tokens parts f 0 → whole (frames_of parts) (Some (tree_of f)) size ≡ Ok e → Spells most tokens e
+whole_form : (most size : ℕ) (tokens : List Placed) (parts : List Part) (f : Form) (e : Tree) → Held most tokens parts f 0 → tree_if_complete (frames_of parts) (Some (tree_of_form f)) size ≡ Ok e → Spells most tokens e
 whole_form most size tokens [] f e held h = record { form = f; of = record { formed = held.formed; within = omega (arith, held.within); printed = held.spelt }; tree = cc }
 whole_form most size tokens (bracket_part at ∷ below) f e held h = cc
 whole_form most size tokens (prefix_part op at ∷ below) f e held h = cc
@@ -341,4 +341,4 @@ pub reached-whole : (most size : ℕ) (tokens : List Placed) {p : Parser} (e : T
 reached-whole most size tokens e (wants parts stands within spelt) h = cc
 reached-whole most size tokens e (holds parts f held) h =
     let c = close-held parts f 0 most tokens (loosened 0 zero-le held) in
-    whole_form most size tokens c.parts c.form e c.held (sym (ap (λ (p : Parser). whole p.stack p.tree size) c.is) ∙ h)
+    whole_form most size tokens c.parts c.form e c.held (sym (ap (λ (p : Parser). tree_if_complete p.stack p.tree size) c.is) ∙ h)

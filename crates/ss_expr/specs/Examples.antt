@@ -22,26 +22,35 @@ b_at at = leaf at atom.B
 abbrev fault : ℕ → ExprWhy → Result Tree ExprFault
 fault at why = Err (record { at = at; why = why })
 
-products_first : expression_of (codes "a + b * 2") ≡ Ok (binary (Compute Add) 2 (a_at 0) (binary (Compute Multiply) 6 (b_at 4) (leaf 8 (atom.Number (pos 2)))))
+products_first : expression_of (codes "a + b * 2")
+    ≡ Ok (binary (Compute Add) 2 (a_at 0) (binary (Compute Multiply) 6 (b_at 4) (leaf 8 (atom.Number (pos 2)))))
 products_first = refl
 
-brackets_first : expression_of (codes "(a + b) * 2") ≡ Ok (binary (Compute Multiply) 8 (binary (Compute Add) 3 (a_at 1) (b_at 5)) (leaf 10 (atom.Number (pos 2))))
+brackets_first : expression_of (codes "(a + b) * 2")
+    ≡ Ok (binary (Compute Multiply) 8 (binary (Compute Add) 3 (a_at 1) (b_at 5)) (leaf 10 (atom.Number (pos 2))))
 brackets_first = refl
 
-to_the_left : expression_of (codes "a - b - a") ≡ Ok (binary (Compute Subtract) 6 (binary (Compute Subtract) 2 (a_at 0) (b_at 4)) (a_at 8))
+to_the_left : expression_of (codes "a - b - a")
+    ≡ Ok (binary (Compute Subtract) 6 (binary (Compute Subtract) 2 (a_at 0) (b_at 4)) (a_at 8))
 to_the_left = refl
 
 and_first : expression_of (codes "a = b or b = a and a = a")
-    ≡ Ok (binary (Connect Or) 6 (binary (Compare Equal) 2 (a_at 0) (b_at 4)) (binary (Connect And) 15 (binary (Compare Equal) 11 (b_at 9) (a_at 13)) (binary (Compare Equal) 21 (a_at 19) (a_at 23))))
+    ≡ Ok (
+    binary (Connect Or) 6 (binary (Compare Equal) 2 (a_at 0) (b_at 4))
+    (binary (Connect And) 15 (binary (Compare Equal) 11 (b_at 9) (a_at 13))
+    (binary (Compare Equal) 21 (a_at 19) (a_at 23)))
+    )
 and_first = refl
 
 not_last : expression_of (codes "not a = b") ≡ Ok (unary Not 0 (binary (Compare Equal) 6 (a_at 4) (b_at 8)))
 not_last = refl
 
-minus_first : expression_of (codes "-a*-b") ≡ Ok (binary (Compute Multiply) 2 (unary Negate 0 (a_at 1)) (unary Negate 3 (b_at 4)))
+minus_first : expression_of (codes "-a*-b")
+    ≡ Ok (binary (Compute Multiply) 2 (unary Negate 0 (a_at 1)) (unary Negate 3 (b_at 4)))
 minus_first = refl
 
-quoted : expression_of (codes "key='k'") ≡ Ok (binary (Compare Equal) 3 (leaf 0 atom.Subject) (leaf 4 (atom.Text 0x6B000000000000000000000000000000)))
+quoted : expression_of (codes "key='k'")
+    ≡ Ok (binary (Compare Equal) 3 (leaf 0 atom.Subject) (leaf 4 (atom.Text 0x6B000000000000000000000000000000)))
 quoted = refl
 
 no_second_comparison : expression_of (codes "a = b = a") ≡ fault 6 Unexpected

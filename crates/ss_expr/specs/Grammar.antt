@@ -28,16 +28,17 @@ unary_token unary_op.Negate = token.Operator (Compute Subtract)
 -- a form's tokens, each with its place
 abbrev pub print : Form → List Placed
 print (single at atom) = record { at = at; token = token.Atom atom } ∷ []
-print (bracketed from f to) = record { at = from; token = token.Open } ∷ print f ++ record { at = to; token = token.Close } ∷ []
+print (bracketed from f to) =
+    record { at = from; token = token.Open } ∷ print f ++ record { at = to; token = token.Close } ∷ []
 print (prefixed op at f) = record { at = at; token = unary_token op } ∷ print f
 print (joined op at l r) = print l ++ record { at = at; token = token.Operator op } ∷ print r
 
 -- the tree without the brackets
-abbrev pub tree_of : Form → Tree
-tree_of (single at atom) = leaf at atom
-tree_of (bracketed from f to) = tree_of f
-tree_of (prefixed op at f) = unary op at (tree_of f)
-tree_of (joined op at l r) = binary op at (tree_of l) (tree_of r)
+abbrev pub tree_of_form : Form → Tree
+tree_of_form (single at atom) = leaf at atom
+tree_of_form (bracketed from f to) = tree_of_form f
+tree_of_form (prefixed op at f) = unary op at (tree_of_form f)
+tree_of_form (joined op at l r) = binary op at (tree_of_form l) (tree_of_form r)
 
 -- How tightly a form binds: 0 `or`, 1 `and`, 2 `not`, 3 comparisons, 4 sums, 5 products, 6 a `-` in front, 7 atoms and
 -- brackets.
@@ -80,7 +81,8 @@ abbrev pub IsFormed : Form → Type 0
 IsFormed (single at atom) = Unit {0}
 IsFormed (bracketed from f to) = IsFormed f
 IsFormed (prefixed op at f) = (unary_binding op ≤ form_binding f) × IsFormed f
-IsFormed (joined op at l r) = (left_binding op ≤ form_binding l) × (right_binding op ≤ form_binding r) × IsFormed l × IsFormed r
+IsFormed (joined op at l r) =
+    (left_binding op ≤ form_binding l) × (right_binding op ≤ form_binding r) × IsFormed l × IsFormed r
 
 -- how many levels are open at once: each bracket, `not` and `-` in front opens one up to the end of its operand
 abbrev pub levels : Form → ℕ
@@ -107,4 +109,4 @@ BeginsAtAll tokens = (most : ℕ) × Begins most tokens
 pub record Spells (most : ℕ) (tokens : List Placed) (e : Tree) : Type 0 where
   pub form : Form
   pub of : IsFormOf most tokens form
-  pub tree : tree_of form ≡ e
+  pub tree : tree_of_form form ≡ e

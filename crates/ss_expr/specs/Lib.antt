@@ -6,6 +6,8 @@ pub mod Kinds
 pub mod Laws
 pub mod Limits
 pub mod Node
+pub mod OperatorExamples
+pub mod Operators
 pub mod Printing
 pub mod Reading
 pub mod Stacks

@@ -1,5 +1,6 @@
 -- A plain reader of expressions: it takes one token after the other.
-use Rattle.std.specs.Prelude.{ℕ, ◌+◌, Bool, false, nat_lt, nat_le, length, List, [], ◌∷◌, Option, Some, None, Result, Ok, Err, if◌then◌else◌}
+use Rattle.std.specs.Prelude.{ℕ, ◌+◌, Bool, false, nat_lt, nat_le, length, List, [], ◌∷◌, Option, Some, None, Result}
+use Rattle.std.specs.Prelude.{Ok, Err, if◌then◌else◌}
 use Rattle.ss_expr.specs.Grammar.{unary_binding, binding, left_binding, right_binding}
 use Rattle.ss_expr.specs.Tree.{Tree, leaf, unary, binary}
 use Rattle.ss_expr.specs.declared.operators.UnaryOp.TheVariants as unary_op
@@ -59,7 +60,8 @@ holding stack e = record { stack = stack; tree = Some e }
 -- closes the operators that bind at least so tightly: the tree is the operand of each
 abbrev pub close : List Frame → ℕ → Tree → Parser
 close [] least e = holding [] e
-close (frame ∷ below) least e = if binds frame least then close below least (over frame e) else holding (frame ∷ below) e
+close (frame ∷ below) least e =
+    if binds frame least then close below least (over frame e) else holding (frame ∷ below) e
 
 -- a frame that opens a level
 abbrev pub deepen : ℕ → List Frame → Frame → Result Parser ExprWhy
@@ -73,13 +75,16 @@ take_minus most stack at _ = Err Unexpected
 abbrev pub take_operand : ℕ → List Frame → ℕ → Token → Result Parser ExprWhy
 take_operand most stack at (token.Atom atom) = Ok (holding stack (leaf at atom))
 take_operand most stack at token.Open = deepen most stack Open
-take_operand most stack at token.Not = if nat_le (wanted stack) (unary_binding unary_op.Not) then deepen most stack (Prefix unary_op.Not at) else Err Unexpected
+take_operand most stack at token.Not =
+    if nat_le (wanted stack) (unary_binding unary_op.Not) then deepen most stack (Prefix unary_op.Not at)
+    else Err Unexpected
 take_operand most stack at (token.Operator op) = take_minus most stack at op
 take_operand most stack at token.Close = Err Unexpected
 
 -- an operator behind its left side, where it binds as tightly as the frame below wants
 abbrev pub put_operator : BinaryOp → ℕ → List Frame → Option Tree → Result Parser ExprWhy
-put_operator op at stack (Some l) = if nat_le (wanted stack) (binding op) then Ok (wanting (Left op at l ∷ stack)) else Err Unexpected
+put_operator op at stack (Some l) =
+    if nat_le (wanted stack) (binding op) then Ok (wanting (Left op at l ∷ stack)) else Err Unexpected
 put_operator op at stack None = Err Unexpected
 
 abbrev pub close_bracket : List Frame → Option Tree → Result Parser ExprWhy
@@ -88,7 +93,9 @@ close_bracket _ e = Err Unexpected
 
 -- a token behind an operand
 abbrev pub take_operator : List Frame → Tree → ℕ → Token → Result Parser ExprWhy
-take_operator stack e at (token.Operator op) = let p = close stack (left_binding op) e in put_operator op at p.stack p.tree
+take_operator stack e at (token.Operator op) =
+    let p = close stack (left_binding op) e in
+    put_operator op at p.stack p.tree
 take_operator stack e at token.Close = let p = close stack 0 e in close_bracket p.stack p.tree
 take_operator stack e at _ = Err Unexpected
 
@@ -115,13 +122,13 @@ abbrev pub run : ℕ → List Placed → Parser → Result Parser ExprFault
 run most [] p = Ok p
 run most (t ∷ ts) p = fault_at t.at (step most p t) >>= run most ts
 
-abbrev pub whole : List Frame → Option Tree → ℕ → Result Tree ExprFault
-whole [] (Some e) size = Ok e
-whole _ e size = Err (record { at = size; why = Unexpected })
+abbrev pub tree_if_complete : List Frame → Option Tree → ℕ → Result Tree ExprFault
+tree_if_complete [] (Some e) size = Ok e
+tree_if_complete _ e size = Err (record { at = size; why = Unexpected })
 
 abbrev pub finish_at : List Frame → Option Tree → ℕ → Result Tree ExprFault
 finish_at stack None size = Err (record { at = size; why = Unexpected })
-finish_at stack (Some e) size = let p = close stack 0 e in whole p.stack p.tree size
+finish_at stack (Some e) size = let p = close stack 0 e in tree_if_complete p.stack p.tree size
 
 -- the expression, at the end of a text of so many bytes
 abbrev pub finish : ℕ → Parser → Result Tree ExprFault
@@ -141,4 +148,6 @@ read_from size s p = run most_levels s.tokens p >>= unbroken s.fault >>= finish 
 
 -- the expression with this text, or the first fault
 abbrev pub expression_of : List ℕ → Result Tree ExprFault
-expression_of text = if nat_lt most_bytes (length text) then Err (record { at = 0; why = TooLong (length text) }) else read_from (length text) (scan text 0 0) start
+expression_of text =
+    if nat_lt most_bytes (length text) then Err (record { at = 0; why = TooLong (length text) })
+    else read_from (length text) (scan text 0 0) start

@@ -1,5 +1,7 @@
 -- The tokens of a text.
-use Rattle.std.specs.Prelude.{ℕ, zero, suc, ◌+◌, ◌-◌, ◌^◌, Bool, false, ◌&&◌, ◌||◌, not, ◌==◌, nat_lt, ℤ, pos, length, take, List, [], ◌∷◌, Option, Some, None, option_map, Result, Ok, Err, find, if◌then◌else◌, codes}
+use Rattle.std.specs.Prelude.{ℕ, zero, suc, ◌+◌, ◌-◌, ◌^◌, Bool, false, ◌&&◌, ◌||◌, not, ◌==◌, nat_lt, ℤ, pos, length}
+use Rattle.std.specs.Prelude.{take, List, [], ◌∷◌, Option, Some, None, option_map, Result, Ok, Err, find}
+use Rattle.std.specs.Prelude.{if◌then◌else◌, codes}
 use Rattle.std.specs.Char.{is_ascii_alphabetic, is_ascii_digit, is_digit}
 use Rattle.std.specs.List.{list_all, prefix_len}
 use Rattle.std.specs.Str.{bytes_eq}
@@ -52,14 +54,18 @@ word_at text = let len = prefix_len is_ascii_alphabetic text in known BadToken (
 
 -- the number that digits write, where 64 bits hold it
 abbrev pub number_of : List ℕ → Option ℤ
-number_of digits = if list_all is_decimal digits && nat_lt (digits_value 10 digits) (2 ^ 63) then Some (pos (digits_value 10 digits)) else None
+number_of digits =
+    if list_all is_decimal digits && nat_lt (digits_value 10 digits) (2 ^ 63) then Some (pos (digits_value 10 digits))
+    else None
 
 abbrev pub number_token : ℤ → Token
 number_token n = token.Atom (atom.Number n)
 
 -- all digits in front are one number
 abbrev pub number_at : List ℕ → Read
-number_at text = let len = prefix_len is_ascii_digit text in known BadNumber (option_map number_token (number_of (take len text))) len
+number_at text =
+    let len = prefix_len is_ascii_digit text in
+    known BadNumber (option_map number_token (number_of (take len text))) len
 
 abbrev pub is_inside_quotes : ℕ → Bool
 is_inside_quotes b = not (b == 39)
@@ -70,7 +76,8 @@ text_token key = token.Atom (atom.Text key)
 -- behind a quote: a key without a quote in it, up to the next quote
 abbrev pub quoted_at : List ℕ → Read
 quoted_at rest = let len = prefix_len is_inside_quotes rest in
-    if nat_lt len (length rest) then known BadToken (option_map text_token (key_of (take len rest))) (len + 2) else Err BadToken
+    if nat_lt len (length rest) then known BadToken (option_map text_token (key_of (take len rest))) (len + 2)
+    else Err BadToken
 
 abbrev pub compute : Arithmetic → Read
 compute op = Ok (token.Operator (Compute op), 1)
@@ -118,11 +125,15 @@ pub record Scanned : Type 0 where
 
 -- a token with this length at this place, and what comes behind it; or a fault, and nothing behind it
 abbrev pub token_then : ℕ → Read → (ℕ → Scanned) → Scanned
-token_then at (Ok found) behind = let s = behind found.1 in record { tokens = record { at = at; token = found.0 } ∷ s.tokens; fault = s.fault }
+token_then at (Ok found) behind =
+    let s = behind found.1 in
+    record { tokens = record { at = at; token = found.0 } ∷ s.tokens; fault = s.fault }
 token_then at (Err why) behind = record { tokens = []; fault = Some (record { at = at; why = why }) }
 
 -- the tokens of a text whose first byte is at a place, and whose first bytes belong to a token before it
 abbrev pub scan : List ℕ → ℕ → ℕ → Scanned
 scan [] at taken = record { tokens = []; fault = None }
 scan (b ∷ rest) at (suc taken) = scan rest (at + 1) taken
-scan (b ∷ rest) at zero = if is_blank b then scan rest (at + 1) 0 else token_then at (token_at (b ∷ rest)) (λ len. scan rest (at + 1) (len - 1))
+scan (b ∷ rest) at zero =
+    if is_blank b then scan rest (at + 1) 0
+    else token_then at (token_at (b ∷ rest)) (λ len. scan rest (at + 1) (len - 1))

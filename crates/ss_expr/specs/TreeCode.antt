@@ -46,4 +46,6 @@ trees-marks (binary op at l r) rest =
     ap (under_binary op at) (trees-marks l (marks r rest) ∙ ap (λ es. l ∷ es) (trees-marks r rest))
 
 abbrev pub tree_code : Coded Mark → Coded Tree
-tree_code code = code_by (List Mark) (coded_list code) (λ e. marks e []) (λ ms. first_tree (trees ms)) (λ e. ap first_tree (trees-marks e []))
+tree_code code =
+    code_by (List Mark) (coded_list code) (λ e. marks e []) (λ ms. first_tree (trees ms))
+    (λ e. ap first_tree (trees-marks e []))

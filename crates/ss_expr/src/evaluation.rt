@@ -1,7 +1,8 @@
 ghost use Rattle.std.specs.Prelude.{◌≡◌, None, true, false};
 ghost use Rattle.std.specs.Ordering.{int_cmp};
 ghost use Rattle.ss_expr.specs.Kinds.{atom_kind, kind_of, misfit, takes};
-ghost use Rattle.ss_expr.specs.Values.{arithmetic, atom_value, binary_value, connects, holds, value_kind, value_of, HasShortTimes};
+ghost use Rattle.ss_expr.specs.Values.{arithmetic, atom_value, binary_value, connects, holds, value_kind, value_of};
+ghost use Rattle.ss_expr.specs.Values.{HasShortTimes};
 
 use crate::atom::Atom;
 use crate::expr::{Expr, Node};
@@ -28,7 +29,7 @@ pub fn eval(e: &Expr, x: &Event) -> Value
 }
 
 #[tactic(auto, using(crate::proofs::Misfits::fitting))]
-fn number(e: &Expr, x: &Event) -> i64
+pub(crate) fn number(e: &Expr, x: &Event) -> i64
     requires fitting { misfit e.now ≡ None }
     requires number { kind_of e.now ≡ ValueKind.Num }
     requires times { HasShortTimes x.now }
@@ -59,7 +60,7 @@ fn text(e: &Expr, x: &Event) -> Key
 }
 
 #[tactic(auto, using(crate::proofs::Misfits::fitting))]
-fn truth(e: &Expr, x: &Event) -> bool
+pub(crate) fn truth(e: &Expr, x: &Event) -> bool
     requires fitting { misfit e.now ≡ None }
     requires truth { kind_of e.now ≡ ValueKind.Truth }
     requires times { HasShortTimes x.now }
@@ -85,7 +86,8 @@ fn compare(op: Comparison, left: &Expr, right: &Expr, x: &Event) -> bool
     requires right { misfit right.now ≡ None }
     requires alike { takes (BinaryOp.Compare op) (kind_of left.now) (kind_of right.now) ≡ true }
     requires times { HasShortTimes x.now }
-    ensures { binary_value (BinaryOp.Compare op) (value_of left.now x.now) (value_of right.now x.now) ≡ Value.Truth result }
+    ensures { binary_value (BinaryOp.Compare op) (value_of left.now x.now) (value_of right.now x.now)
+        ≡ Value.Truth result }
 {
     match kind(left) {
         ValueKind::Num => does_hold(op, number(left, x).cmp(&number(right, x))),

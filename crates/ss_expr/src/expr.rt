@@ -37,11 +37,12 @@ impl Model for Expr {
     ghost use Rattle.ss_expr.specs.contracts.operators.BinaryOp as binary_op;
     ghost use Rattle.std.specs.Coded.{codes};
 
-    ghost coded = { tree_code (Prim.hlevel (codes, atom.the_row.coded, unary_op.the_row.coded, binary_op.the_row.coded)) };
+    ghost coded = { tree_code
+        (Prim.hlevel (codes, atom.the_row.coded, unary_op.the_row.coded, binary_op.the_row.coded)) };
 
-    ghost use Rattle.ss_expr.specs.Node.{tree_of};
+    ghost use Rattle.ss_expr.specs.Node.{tree_of_node};
 
-    ghost view = { λ e. tree_of e.node };
+    ghost view = { λ e. tree_of_node e.node };
 
     ghost size = { count };
 
@@ -52,7 +53,7 @@ impl Model for Expr {
 
 impl Expr {
     ghost use Rattle.ss_expr.specs.Tree.{leaf, unary, binary, place};
-    ghost use Rattle.ss_expr.specs.Node.{tree_of};
+    ghost use Rattle.ss_expr.specs.Node.{tree_of_node};
 
     /// An atom at its place.
     pub(crate) fn leaf(at: u64, atom: Atom) -> Expr
@@ -97,7 +98,7 @@ impl Expr {
 
     /// One level of the tree.
     pub(crate) fn node(&self) -> &Node
-        ensures { tree_of result.now ≡ self.now }
+        ensures { tree_of_node result.now ≡ self.now }
     {
         &self.node
     }
@@ -110,6 +111,23 @@ impl Expr {
             Node::Leaf(at, _) => *at,
             Node::Unary(_, at, _) => *at,
             Node::Binary(_, at, _, _) => *at,
+        }
+    }
+    /// The same expression once more, in memory of its own.
+    pub fn copied(&self, alloc: Global) -> Result<Expr, AllocError>
+        ensures { IfOk result (λ e. e ≡ self.now) }
+    {
+        match &self.node {
+            Node::Leaf(at, atom) => Ok(Expr::leaf(*at, *atom)),
+            Node::Unary(op, at, operand) => {
+                let operand = operand.copied(alloc)?;
+                Expr::unary(alloc, *op, *at, operand)
+            }
+            Node::Binary(op, at, left, right) => {
+                let left = left.copied(alloc)?;
+                let right = right.copied(alloc)?;
+                Expr::binary(alloc, *op, *at, left, right)
+            }
         }
     }
 }

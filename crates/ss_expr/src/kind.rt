@@ -1,5 +1,6 @@
 ghost use Rattle.std.specs.Prelude.{◌≡◌, Some, None, MatchResult, OnOk, option_map, find};
-ghost use Rattle.ss_expr.specs.Kinds.{kind_of, atom_kind, unary_kind, gives, takes, same_kind, misfit, own_misfit, kind_fault, HasKind};
+ghost use Rattle.ss_expr.specs.Kinds.{kind_of, atom_kind, unary_kind, gives, takes, same_kind, misfit, own_misfit};
+ghost use Rattle.ss_expr.specs.Kinds.{kind_fault, HasKind};
 ghost use Rattle.ss_expr.specs.Tree.{unary, binary};
 
 use crate::atom::Atom;

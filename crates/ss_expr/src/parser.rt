@@ -1,5 +1,5 @@
-ghost use Rattle.std.specs.Prelude.{◌≡◌, None, Some, Ok, IfErr, OnOk};
-ghost use Rattle.ss_expr.specs.Answers.{Fails, Gives};
+ghost use Rattle.std.specs.Prelude.{◌≡◌, None, Some};
+ghost use Rattle.ss_expr.specs.Answers.{AnswersReading, Steps};
 ghost use Rattle.ss_expr.specs.Limits.{most_levels};
 ghost use Rattle.ss_expr.specs.Reading as reading;
 
@@ -35,8 +35,7 @@ impl Parser {
 
     /// Takes the next token. After an error the parser is of no further use.
     pub(crate) fn take(&mut self, alloc: Global, next: Placed) -> Result<(), ParseFault>
-        ensures taken { OnOk result (reading.step most_levels self.old next ≡ Ok self.new) }
-        ensures refused { IfErr result (λ e. Fails e (reading.fault_at next.at (reading.step most_levels self.old next))) }
+        ensures { Steps next.at (reading.step most_levels self.old next) self.new result }
     {
         match self.tree.take() {
             None => self.take_operand(next.at, next.token),
@@ -46,7 +45,7 @@ impl Parser {
 
     /// The expression, at the end of a text of so many bytes.
     pub(crate) fn finish(mut self, alloc: Global, size: u64) -> Result<Expr, ParseFault>
-        ensures { Gives result (reading.finish size self) }
+        ensures { AnswersReading result (reading.finish size self) }
     {
         match self.tree.take() {
             None => Err(unexpected(size)),
@@ -63,8 +62,7 @@ impl Parser {
 
     fn take_operand(&mut self, at: u64, token: Token) -> Result<(), ParseFault>
         requires { self.old.tree ≡ None }
-        ensures taken { OnOk result (reading.take_operand most_levels self.old.stack at token ≡ Ok self.new) }
-        ensures refused { IfErr result (λ e. Fails e (reading.fault_at at (reading.take_operand most_levels self.old.stack at token))) }
+        ensures { Steps at (reading.take_operand most_levels self.old.stack at token) self.new result }
     {
         match token {
             Token::Atom(atom) => {
@@ -85,8 +83,7 @@ impl Parser {
 
     fn take_minus(&mut self, at: u64, op: BinaryOp) -> Result<(), ParseFault>
         requires { self.old.tree ≡ None }
-        ensures taken { OnOk result (reading.take_minus most_levels self.old.stack at op ≡ Ok self.new) }
-        ensures refused { IfErr result (λ e. Fails e (reading.fault_at at (reading.take_minus most_levels self.old.stack at op))) }
+        ensures { Steps at (reading.take_minus most_levels self.old.stack at op) self.new result }
     {
         if op == BinaryOp::Compute(Arithmetic::Subtract) {
             self.deepen(at, Frame::Prefix(UnaryOp::Negate, at))
@@ -98,8 +95,7 @@ impl Parser {
     /// Opens a level.
     fn deepen(&mut self, at: u64, frame: Frame) -> Result<(), ParseFault>
         requires { self.old.tree ≡ None }
-        ensures taken { OnOk result (reading.deepen most_levels self.old.stack frame ≡ Ok self.new) }
-        ensures refused { IfErr result (λ e. Fails e (reading.fault_at at (reading.deepen most_levels self.old.stack frame))) }
+        ensures { Steps at (reading.deepen most_levels self.old.stack frame) self.new result }
     {
         if self.stack.open_levels() >= MOST_LEVELS {
             return Err(ParseFault::At(ExprFault {
@@ -119,8 +115,7 @@ impl Parser {
         token: Token,
     ) -> Result<(), ParseFault>
         requires { self.old.tree ≡ None }
-        ensures taken { OnOk result (reading.take_operator self.old.stack tree at token ≡ Ok self.new) }
-        ensures refused { IfErr result (λ e. Fails e (reading.fault_at at (reading.take_operator self.old.stack tree at token))) }
+        ensures { Steps at (reading.take_operator self.old.stack tree at token) self.new result }
     {
         match token {
             Token::Operator(op) => {
@@ -138,8 +133,7 @@ impl Parser {
     /// An operator behind what binds tightly enough to be its left side.
     fn put_operator(&mut self, op: BinaryOp, at: u64, left: Expr) -> Result<(), ParseFault>
         requires { self.old.tree ≡ None }
-        ensures taken { OnOk result (reading.put_operator op at self.old.stack (Some left) ≡ Ok self.new) }
-        ensures refused { IfErr result (λ e. Fails e (reading.fault_at at (reading.put_operator op at self.old.stack (Some left)))) }
+        ensures { Steps at (reading.put_operator op at self.old.stack (Some left)) self.new result }
     {
         if self.stack.wanted() > op.binding() {
             return Err(unexpected(at));
@@ -151,8 +145,7 @@ impl Parser {
     /// A closing bracket behind what was opened last.
     fn close_bracket(&mut self, at: u64, inside: Expr) -> Result<(), ParseFault>
         requires { self.old.tree ≡ None }
-        ensures taken { OnOk result (reading.close_bracket self.old.stack (Some inside) ≡ Ok self.new) }
-        ensures refused { IfErr result (λ e. Fails e (reading.fault_at at (reading.close_bracket self.old.stack (Some inside)))) }
+        ensures { Steps at (reading.close_bracket self.old.stack (Some inside)) self.new result }
     {
         match self.stack.pop() {
             Some(Frame::Open) => {

@@ -1,5 +1,5 @@
 ghost use Rattle.std.specs.Prelude.{◌≡◌, ◌+◌, ◌<◌, Ok, IfOk, IfErr, length, drop};
-ghost use Rattle.ss_expr.specs.Answers.{Fails, Gives};
+ghost use Rattle.ss_expr.specs.Answers.{IsFaultOfReading, AnswersReading};
 ghost use Rattle.ss_expr.specs.Expressions.{IsExpression, IsFault};
 ghost use Rattle.ss_expr.specs.Reading.{expression_of, read_from, start};
 ghost use Rattle.ss_expr.specs.Tree.{Tree};
@@ -18,9 +18,9 @@ const MOST_BYTES: usize = 256;
 /// text is none.
 #[tactic(auto, using(crate::proofs::Exact::exactness))]
 pub fn parse(alloc: Global, text: &str) -> Result<Expr, ParseFault>
-    ensures exact { Gives result (expression_of text.now) }
+    ensures exact { AnswersReading result (expression_of text.now) }
     ensures expression { IfOk result (IsExpression text.now) }
-    ensures only { (e : Tree) → IsExpression text.now e → Gives result (Ok e) }
+    ensures only { (e : Tree) → IsExpression text.now e → AnswersReading result (Ok e) }
     ensures fault { IfErr result (IsFault text.now) }
 {
     match read_text(alloc, text.as_bytes()) {
@@ -30,7 +30,7 @@ pub fn parse(alloc: Global, text: &str) -> Result<Expr, ParseFault>
 }
 
 fn read_text(alloc: Global, text: &[u8]) -> Result<Expr, ParseFault>
-    ensures { Gives result (expression_of text.now) }
+    ensures { AnswersReading result (expression_of text.now) }
 {
     if text.len() > MOST_BYTES {
         let why = ExprWhy::TooLong {
@@ -45,7 +45,7 @@ fn read_text(alloc: Global, text: &[u8]) -> Result<Expr, ParseFault>
 }
 
 fn read(alloc: Global, text: &[u8]) -> Result<Expr, ParseFault>
-    ensures { Gives result (read_from (length text.now) (scan text.now 0 0) start) }
+    ensures { AnswersReading result (read_from (length text.now) (scan text.now 0 0) start) }
 {
     let mut parser = Parser::new(alloc);
     // How many bytes still belong to the token that was taken last.
@@ -71,7 +71,8 @@ fn take_byte(
     requires { at < length text.now }
     ensures goes_on { IfOk result (λ left. read_from (length text.now) (scan (drop at text.now) at taken) parser.old
         ≡ read_from (length text.now) (scan (drop (at + 1) text.now) (at + 1) left) parser.new) }
-    ensures refused { IfErr result (λ e. Fails e (read_from (length text.now) (scan (drop at text.now) at taken) parser.old)) }
+    ensures refused { IfErr result (λ e. IsFaultOfReading e
+        (read_from (length text.now) (scan (drop at text.now) at taken) parser.old)) }
 {
     if taken > 0 {
         return Ok(taken - 1);

@@ -1,7 +1,8 @@
 ghost use Rattle.std.specs.Prelude.{◌≡◌, ◌≤◌, length};
 ghost use Rattle.std.specs.Char.{is_ascii_alphabetic, is_ascii_digit};
 ghost use Rattle.std.specs.List.{prefix_len};
-ghost use Rattle.ss_expr.specs.Tokens.{begins_equals, is_inside_quotes, number_at, number_of, quoted_at, sign_at, token_at, compute, comparison, word_at, word_of};
+ghost use Rattle.ss_expr.specs.Tokens.{begins_equals, is_inside_quotes, number_at, number_of, quoted_at, sign_at};
+ghost use Rattle.ss_expr.specs.Tokens.{token_at, compute, comparison, word_at, word_of};
 
 use crate::atom::Atom;
 use crate::fault::ExprWhy;

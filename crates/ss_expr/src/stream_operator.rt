@@ -1,4 +1,7 @@
+ghost use Rattle.std.specs.Prelude.{◌≡◌, IfOk, option_map, Some};
+
 use crate::expr::Expr;
+use std::alloc::{AllocError, Global};
 
 /// What a vertex computes.
 #[derive(Drop)]
@@ -20,6 +23,42 @@ pub enum Spec {
     },
     /// The pairs of rows of two inputs with one key and overlapping spans.
     Join,
+}
+
+impl Spec {
+    /// The same spec once more, in memory of its own.
+    pub fn copied(&self, alloc: Global) -> Result<Spec, AllocError>
+        ensures { IfOk result (λ spec. spec ≡ self.now) }
+    {
+        match self {
+            Spec::Select { test, a, b } => {
+                let test = copied_test(alloc, test)?;
+                let a = a.copied(alloc)?;
+                let b = b.copied(alloc)?;
+                Ok(Spec::Select { test, a, b })
+            }
+            Spec::Union => Ok(Spec::Union),
+            Spec::Window { size, hop, agg, of } => Ok(Spec::Window {
+                size: *size,
+                hop: *hop,
+                agg: *agg,
+                of: *of,
+            }),
+            Spec::Join => Ok(Spec::Join),
+        }
+    }
+}
+
+fn copied_test(alloc: Global, test: &Option<Expr>) -> Result<Option<Expr>, AllocError>
+    ensures { IfOk result (λ copy. copy ≡ test.now) }
+{
+    match test {
+        Some(test) => {
+            let test = test.copied(alloc)?;
+            Ok(Some(test))
+        }
+        None => Ok(None),
+    }
 }
 
 /// What a window makes of the values of its rows.

@@ -7,13 +7,13 @@ use Rattle.std.specs.List.{list_any}
 use Rattle.std.specs.Option.{option_map_or}
 use Rattle.toml.specs.Data.{Data, string, integer, float, boolean, datetime, array, table, Items, no_items, item, Members, no_members, get_member, as_integer, as_array, as_table}
 use Rattle.ss_job.specs.Document.{has_only}
-use Rattle.ss_job.specs.Faults.{whole, at, are_tables, item_count, limit_faults, limits_faults, array_faults, vertices_faults, unread_faults, graph_faults, faults, job_of}
+use Rattle.ss_job.specs.Faults.{fault_of_document, fault_of_vertex, are_tables, item_count, limit_value_faults, limit_faults, limits_faults, array_faults, vertices_faults, unread_faults, graph_faults, faults, job_of}
 use Rattle.ss_job.specs.Fields.{◌>>=◌, ◌>>◌, refuse, required, needed, optional, in_range_or, optional_number, optional_integer}
 use Rattle.ss_job.specs.Format.{key_of, may_have, number, document_keys, keys_of, limit_fields, most_vertices}
 use Rattle.ss_job.specs.JobIn.{tables_in, limits_in, role_in, nodes_in, job_in}
 use Rattle.ss_job.specs.Lookup.{magnitude, number_in, tables_of}
 use Rattle.ss_job.specs.Reading.{limits_from, limits_or, limits_of, as_tables, items_of, draft_at, drafts_after, read_streams, sound_graph, job_with, parts_of, read_document}
-use Rattle.ss_job.specs.Wrong.{when, is_sink, number_faults, field_faults, unknown_faults}
+use Rattle.ss_job.specs.Wrong.{fault_if, is_sink, number_faults, field_faults, unknown_faults}
 use Rattle.ss_job.specs.declared.fault.JobWhy.{JobWhy}
 use Rattle.ss_job.specs.declared.fault.JobWhy.TheVariants.{WrongKind, UnknownField, Unread, NoSink, TooManyVertices}
 use Rattle.ss_job.specs.declared.field_name.FieldName.{FieldName}
@@ -28,16 +28,13 @@ use Rattle.ss_job.proofs.VertexReadings.{vertex_reads}
 
 -- ---- limits
 
-abbrev pub limit_wrong : FieldName → Members → Data → List JobWhy
-limit_wrong field limits value = option_map_or (number_faults field limits) (as_integer value) []
-
-max_elements_reads : (limits : Members) → Reads (optional_number MaxElements 131072 1 131072 limits) (field_faults (limit_wrong MaxElements limits) limits (may_have MaxElements number)) (number_in MaxElements 131072 limits)
+max_elements_reads : (limits : Members) → Reads (optional_number MaxElements 131072 1 131072 limits) (field_faults (limit_value_faults MaxElements limits) limits (may_have MaxElements number)) (number_in MaxElements 131072 limits)
 unfolding optional_number optional_integer
-max_elements_reads limits = optional_integer_reads MaxElements (limit_wrong MaxElements limits) (in_range_or MaxElements 131072 1 131072) (λ got. option_map_or magnitude got 131072) (done 131072) (in_range_reads MaxElements 1 131072) (get_member (key_of MaxElements) limits)
+max_elements_reads limits = optional_integer_reads MaxElements (limit_value_faults MaxElements limits) (in_range_or MaxElements 131072 1 131072) (λ got. option_map_or magnitude got 131072) (done 131072) (in_range_reads MaxElements 1 131072) (get_member (key_of MaxElements) limits)
 
-collect_every_reads : (limits : Members) → Reads (optional_number CollectEvery 256 64 131072 limits) (field_faults (limit_wrong CollectEvery limits) limits (may_have CollectEvery number)) (number_in CollectEvery 256 limits)
+collect_every_reads : (limits : Members) → Reads (optional_number CollectEvery 256 64 131072 limits) (field_faults (limit_value_faults CollectEvery limits) limits (may_have CollectEvery number)) (number_in CollectEvery 256 limits)
 unfolding optional_number optional_integer
-collect_every_reads limits = optional_integer_reads CollectEvery (limit_wrong CollectEvery limits) (in_range_or CollectEvery 256 64 131072) (λ got. option_map_or magnitude got 256) (done 256) (in_range_reads CollectEvery 64 131072) (get_member (key_of CollectEvery) limits)
+collect_every_reads limits = optional_integer_reads CollectEvery (limit_value_faults CollectEvery limits) (in_range_or CollectEvery 256 64 131072) (λ got. option_map_or magnitude got 256) (done 256) (in_range_reads CollectEvery 64 131072) (get_member (key_of CollectEvery) limits)
 
 abbrev limits_with : Members → Limits
 limits_with limits = record { max_elements = number_in MaxElements 131072 limits; collect_every = number_in CollectEvery 256 limits }
@@ -80,7 +77,7 @@ pub record AreItems (items : Items) : Type 0 where
   pub tables : are_tables items ≡ true
   pub few : nat_lt most_vertices (item_count items) ≡ false
 
-items_tested : (items : Items) (tables few : Bool) → Reads (required (cond tables (Some items) None) (WrongKind Vertex) >>= (λ items. refuse few TooManyVertices >> Ok items)) (when (not tables) (WrongKind Vertex) ++ when few TooManyVertices) items
+items_tested : (items : Items) (tables few : Bool) → Reads (required (cond tables (Some items) None) (WrongKind Vertex) >>= (λ items. refuse few TooManyVertices >> Ok items)) (fault_if (not tables) (WrongKind Vertex) ++ fault_if few TooManyVertices) items
 items_tested items true true = record { is = refl }
 items_tested items true false = record { is = refl }
 items_tested items false few = record { is = refl }
@@ -98,7 +95,7 @@ items_reads document = by_value (get_member (key_of Vertex) document)
     by_value (Some (datetime n)) = record { is = refl }
     by_value (Some (array items)) = by_tests items (are_tables items)
       where
-        by_tests : (items : Items) (tables : Bool) → Reads (required (cond tables (Some items) None) (WrongKind Vertex) >>= (λ items. refuse (nat_lt most_vertices (item_count items)) TooManyVertices >> Ok items)) (when (not tables) (WrongKind Vertex) ++ when (nat_lt most_vertices (item_count items)) TooManyVertices) items
+        by_tests : (items : Items) (tables : Bool) → Reads (required (cond tables (Some items) None) (WrongKind Vertex) >>= (λ items. refuse (nat_lt most_vertices (item_count items)) TooManyVertices >> Ok items)) (fault_if (not tables) (WrongKind Vertex) ++ fault_if (nat_lt most_vertices (item_count items)) TooManyVertices) items
         by_tests items true = made (λ _. items) (refused (nat_lt most_vertices (item_count items)) TooManyVertices)
         by_tests items false = record { is = refl }
     by_value (Some (table n)) = record { is = refl }
@@ -106,7 +103,7 @@ items_reads document = by_value (get_member (key_of Vertex) document)
 pub items_in-sound : (document : Members) → array_faults (get_member (key_of Vertex) document) ≡ [] → AreItems (items_in document)
 items_in-sound document sound = by_value (get_member (key_of Vertex) document) sound
   where
-    by_tests : (items : Items) (tables few : Bool) → are_tables items ≡ tables → nat_lt most_vertices (item_count items) ≡ few → when (not tables) (WrongKind Vertex) ++ when few TooManyVertices ≡ [] → AreItems items
+    by_tests : (items : Items) (tables few : Bool) → are_tables items ≡ tables → nat_lt most_vertices (item_count items) ≡ few → fault_if (not tables) (WrongKind Vertex) ++ fault_if few TooManyVertices ≡ [] → AreItems items
     by_tests items true true a b sound = absurd (cc)
     by_tests items true false a b sound = record { tables = a; few = b }
     by_tests items false few a b sound = absurd (cc)
@@ -134,11 +131,11 @@ drafts_reads earlier (item (datetime n) rest) all = absurd (false≢true all)
 drafts_reads earlier (item (array n) rest) all = absurd (false≢true all)
 drafts_reads earlier (item (table t) rest) all =
     let more : length earlier + 1 ≡ length (earlier ++ t ∷ []) = omega (arith, length-append earlier (t ∷ [])) in
-    then _ (placed (at (length earlier)) (vertex_reads earlier t)) (λ _. rw (more, ← append_assoc earlier (t ∷ []) (tables_of rest)) (drafts_reads (earlier ++ t ∷ []) rest all))
+    then _ (placed (fault_of_vertex (length earlier)) (vertex_reads earlier t)) (λ _. rw (more, ← append_assoc earlier (t ∷ []) (tables_of rest)) (drafts_reads (earlier ++ t ∷ []) rest all))
 
 -- ---- the graph
 
-refused_at : (v : ℕ) (test : Bool) → Reads (refuse test (at v Unread)) (map (at v) (when test Unread)) tt
+refused_at : (v : ℕ) (test : Bool) → Reads (refuse test (fault_of_vertex v Unread)) (map (fault_of_vertex v) (fault_if test Unread)) tt
 refused_at v true = record { is = refl }
 refused_at v false = record { is = refl }
 
@@ -147,11 +144,11 @@ unfolding read_streams
 streams_read nodes v [] = record { is = refl }
 streams_read nodes v (node ∷ rest) = then _ (refused_at v (graph.is_stream nodes v && not (graph.is_read nodes v))) (λ _. streams_read nodes (v + 1) rest)
 
-refused_whole : (test : Bool) → Reads (refuse test (whole NoSink)) (map whole (when test NoSink)) tt
+refused_whole : (test : Bool) → Reads (refuse test (fault_of_document NoSink)) (map fault_of_document (fault_if test NoSink)) tt
 refused_whole true = record { is = refl }
 refused_whole false = record { is = refl }
 
-sinks-roles : (tables : List Members) → list_any (λ role. graph.is_sink role.kind) (map role_in tables) ≡ list_any is_sink tables
+pub sinks-roles : (tables : List Members) → list_any (λ role. graph.is_sink role.kind) (map role_in tables) ≡ list_any is_sink tables
 sinks-roles [] = refl
 sinks-roles (t ∷ tables) = rw (kind-is_sink t, sinks-roles tables)
 
@@ -184,9 +181,9 @@ document_reads document =
     let items = array_faults (get_member (key_of Vertex) document) in
     let tables : List Members = tables_of (items_in document) in
     rw (tables_in-items document)
-    (regrouped (map whole ((unknown ++ limits) ++ items)) (vertices_faults [] tables) (graph_faults tables)
-    (then _ (placed whole (regrouped unknown limits items (parts_reads document))) (λ sound.
-    let sound_items = (nothing_in (unknown ++ limits) items (nothing_mapped whole ((unknown ++ limits) ++ items) sound)).1 in
+    (regrouped (map fault_of_document ((unknown ++ limits) ++ items)) (vertices_faults [] tables) (graph_faults tables)
+    (then _ (placed fault_of_document (regrouped unknown limits items (parts_reads document))) (λ sound.
+    let sound_items = (nothing_in (unknown ++ limits) items (nothing_mapped fault_of_document ((unknown ++ limits) ++ items) sound)).1 in
     then _ (drafts_reads [] (items_in document) (items_in-sound document sound_items).tables) (λ _.
     made (λ _. job_with (draft_in tables) (limits_with (limits_in document))) (graph_reads tables)))))
 

@@ -12,9 +12,9 @@ use Rattle.ss_expr.specs.declared.stream_operator.Field.TheVariants as value
 use Rattle.ss_expr.specs.declared.stream_operator.Spec.{Spec}
 use Rattle.ss_expr.specs.declared.stream_operator.Spec.TheVariants as spec
 use Rattle.ss_fail.specs.declared.role.Role.{Role}
-use Rattle.ss_job.specs.Faults.{job_of, whole, at}
+use Rattle.ss_job.specs.Faults.{job_of, fault_of_document, fault_of_vertex}
 use Rattle.ss_job.specs.JobText.{source, inner, sink, JobText}
-use Rattle.ss_job.specs.Names.{is_vertex_name, is_file_name}
+use Rattle.ss_job.specs.LegalNames.{is_vertex_name, is_file_name}
 use Rattle.ss_job.specs.declared.fault.JobWhy.TheVariants.{MissingField, WrongKind, UnknownField, RepeatedName, RepeatedFile, LaterInput, SinkAsInput, BadRange, BadExpr, Unread, NoSink}
 use Rattle.ss_job.specs.declared.field_name.FieldName.TheVariants as field
 use Rattle.ss_job.specs.declared.policy.Policy.{Policy}
@@ -105,52 +105,52 @@ a_select = refl
 -- ---- the first fault
 
 -- no table of limits, and no file: the field that the source doesn't have is found first
-pub unknown_field_first : job_of (document (member (codes "name") (string (codes "a")) (member (codes "op") (string (codes "source")) (member (codes "size") (integer (pos 1)) no_members)) ∷ [])) ≡ Err (at 0 UnknownField)
+pub unknown_field_first : job_of (document (member (codes "name") (string (codes "a")) (member (codes "op") (string (codes "source")) (member (codes "size") (integer (pos 1)) no_members)) ∷ [])) ≡ Err (fault_of_vertex 0 UnknownField)
 unknown_field_first = refl
 
-pub no_file : job_of (document (member (codes "name") (string (codes "a")) (member (codes "op") (string (codes "source")) no_members) ∷ [])) ≡ Err (at 0 (MissingField field.File))
+pub no_file : job_of (document (member (codes "name") (string (codes "a")) (member (codes "op") (string (codes "source")) no_members) ∷ [])) ≡ Err (fault_of_vertex 0 (MissingField field.File))
 no_file = refl
 
 -- a hop out of its range is found before a size of another kind
-pub hop_before_size : job_of (document (source_table ∷ window_table (integer (pos 0)) (string (codes "30")) ∷ [])) ≡ Err (at 1 (BadRange field.Hop (pos 0) (pos 1) (pos 1099511627776)))
+pub hop_before_size : job_of (document (source_table ∷ window_table (integer (pos 0)) (string (codes "30")) ∷ [])) ≡ Err (fault_of_vertex 1 (BadRange field.Hop (pos 0) (pos 1) (pos 1099511627776)))
 hop_before_size = refl
 
-pub no_whole_hops : job_of (document (source_table ∷ window_table (integer (pos 10)) (integer (pos 35)) ∷ [])) ≡ Err (at 1 (BadRange field.Size (pos 35) (pos 10) (pos 640)))
+pub no_whole_hops : job_of (document (source_table ∷ window_table (integer (pos 10)) (integer (pos 35)) ∷ [])) ≡ Err (fault_of_vertex 1 (BadRange field.Size (pos 35) (pos 10) (pos 640)))
 no_whole_hops = refl
 
-pub too_many_hops : job_of (document (source_table ∷ window_table (integer (pos 10)) (integer (pos 650)) ∷ [])) ≡ Err (at 1 (BadRange field.Size (pos 650) (pos 10) (pos 640)))
+pub too_many_hops : job_of (document (source_table ∷ window_table (integer (pos 10)) (integer (pos 650)) ∷ [])) ≡ Err (fault_of_vertex 1 (BadRange field.Size (pos 650) (pos 10) (pos 640)))
 too_many_hops = refl
 
-pub later_input : job_of (document (sink_table (codes "z") (codes "a") ∷ source_table ∷ [])) ≡ Err (at 0 LaterInput)
+pub later_input : job_of (document (sink_table (codes "z") (codes "a") ∷ source_table ∷ [])) ≡ Err (fault_of_vertex 0 LaterInput)
 later_input = refl
 
-pub sink_as_input : job_of (document (source_table ∷ sink_table (codes "z") (codes "a") ∷ sink_table (codes "y") (codes "z") ∷ [])) ≡ Err (at 2 SinkAsInput)
+pub sink_as_input : job_of (document (source_table ∷ sink_table (codes "z") (codes "a") ∷ sink_table (codes "y") (codes "z") ∷ [])) ≡ Err (fault_of_vertex 2 SinkAsInput)
 sink_as_input = refl
 
-pub repeated_name : job_of (document (source_table ∷ sink_table (codes "a") (codes "a") ∷ [])) ≡ Err (at 1 RepeatedName)
+pub repeated_name : job_of (document (source_table ∷ sink_table (codes "a") (codes "a") ∷ [])) ≡ Err (fault_of_vertex 1 RepeatedName)
 repeated_name = refl
 
-pub repeated_file : job_of (document (source_table ∷ sink_table (codes "y") (codes "a") ∷ sink_table (codes "z") (codes "a") ∷ [])) ≡ Err (at 2 RepeatedFile)
+pub repeated_file : job_of (document (source_table ∷ sink_table (codes "y") (codes "a") ∷ sink_table (codes "z") (codes "a") ∷ [])) ≡ Err (fault_of_vertex 2 RepeatedFile)
 repeated_file = refl
 
-pub no_sink : job_of (document (source_table ∷ [])) ≡ Err (whole NoSink)
+pub no_sink : job_of (document (source_table ∷ [])) ≡ Err (fault_of_document NoSink)
 no_sink = refl
 
-pub no_vertices : job_of (document []) ≡ Err (whole NoSink)
+pub no_vertices : job_of (document []) ≡ Err (fault_of_document NoSink)
 no_vertices = refl
 
 -- a second source that nothing reads
-pub unread : job_of (document (source_table ∷ sink_table (codes "z") (codes "a") ∷ member (codes "file") (string (codes "in")) (member (codes "name") (string (codes "b")) (member (codes "op") (string (codes "source")) no_members)) ∷ [])) ≡ Err (at 2 Unread)
+pub unread : job_of (document (source_table ∷ sink_table (codes "z") (codes "a") ∷ member (codes "file") (string (codes "in")) (member (codes "name") (string (codes "b")) (member (codes "op") (string (codes "source")) no_members)) ∷ [])) ≡ Err (fault_of_vertex 2 Unread)
 unread = refl
 
-pub no_table_of_limits : job_of (member (codes "job") (integer (pos 1)) no_members) ≡ Err (whole (WrongKind field.Job))
+pub no_table_of_limits : job_of (member (codes "job") (integer (pos 1)) no_members) ≡ Err (fault_of_document (WrongKind field.Job))
 no_table_of_limits = refl
 
-pub limit_out_of_range : job_of (member (codes "job") (table (member (codes "collect_every") (integer (pos 63)) no_members)) no_members) ≡ Err (whole (BadRange field.CollectEvery (pos 63) (pos 64) (pos 131072)))
+pub limit_out_of_range : job_of (member (codes "job") (table (member (codes "collect_every") (integer (pos 63)) no_members)) no_members) ≡ Err (fault_of_document (BadRange field.CollectEvery (pos 63) (pos 64) (pos 131072)))
 limit_out_of_range = refl
 
 -- a truth where a number is wanted: the fault is at the operator
-pub no_number : job_of (document (source_table ∷ member (codes "a") (string (codes "a < b")) select_table ∷ [])) ≡ Err (at 1 (BadExpr field.A 2))
+pub no_number : job_of (document (source_table ∷ member (codes "a") (string (codes "a < b")) select_table ∷ [])) ≡ Err (fault_of_vertex 1 (BadExpr field.A 2))
 no_number = refl
 
 -- ---- whole texts

@@ -13,11 +13,11 @@ use Rattle.ss_expr.specs.declared.kind.ValueKind.{ValueKind}
 use Rattle.ss_expr.specs.declared.kind.ValueKind.TheVariants.{Truth, Num}
 use Rattle.ss_expr.specs.declared.stream_operator.Agg.TheVariants as agg
 use Rattle.ss_expr.specs.declared.stream_operator.Field.TheVariants as value
-use Rattle.ss_job.specs.Faults.{unless}
+use Rattle.ss_job.specs.Faults.{first_fault_or}
 use Rattle.ss_job.specs.Fields.{◌>>=◌, required, needed, optional, needed_text, optional_text, needed_integer, optional_integer, in_range, in_range_or, needed_number, optional_number, whole_hops, size_of, meaning_or, late_of, value_of, replay_of, agg_of, of_kind, if_kind, expression_with, test_with, test_of, row_number_of}
 use Rattle.ss_job.specs.Format.{key_of, has, may_have, text, number}
-use Rattle.ss_job.specs.Lookup.{magnitude, number_in, word_in, tree_in, tree_of, tree_or, text_in, late_named, agg_named, value_named, replay_named}
-use Rattle.ss_job.specs.Wrong.{when, range_faults, is_within, is_multiple, out_of_range, size_faults, kind_faults, tree_faults, expression_faults, said_faults, field_faults, value_faults}
+use Rattle.ss_job.specs.Lookup.{magnitude, number_in, word_in, tree_in, tree_of_text, tree_or, text_in, late_named, agg_named, value_named, replay_named}
+use Rattle.ss_job.specs.Wrong.{fault_if, range_faults, is_within, is_multiple, out_of_range, size_faults, kind_faults, tree_faults, expression_faults, said_faults, field_faults, value_faults}
 use Rattle.ss_job.specs.declared.fault.JobWhy.{JobWhy}
 use Rattle.ss_job.specs.declared.fault.JobWhy.TheVariants.{BadWord}
 use Rattle.ss_job.specs.declared.field_name.FieldName.{FieldName}
@@ -77,14 +77,14 @@ module _ {B : Type 0} (field : FieldName) (wrong : Data → List JobWhy) where
 pub in_range_reads : (field : FieldName) (least most : ℕ) (got : ℤ) → Reads (in_range field least most got) (range_faults field least most got) (magnitude got)
 in_range_reads field least most got = record { is = by_test (is_within least most got) }
   where
-    by_test : (test : Bool) → cond test (Ok (magnitude got)) (Err (out_of_range field least most got)) ≡ unless (when (not test) (out_of_range field least most got)) (magnitude got)
+    by_test : (test : Bool) → cond test (Ok (magnitude got)) (Err (out_of_range field least most got)) ≡ first_fault_or (fault_if (not test) (out_of_range field least most got)) (magnitude got)
     by_test true = refl
     by_test false = refl
 
 pub whole_hops_reads : (hop : ℕ) (got : ℤ) → Reads (whole_hops hop got) (size_faults hop got) (magnitude got)
 whole_hops_reads hop got = record { is = by_test (is_within hop (64 * hop) got && is_multiple hop got) }
   where
-    by_test : (test : Bool) → cond test (Ok (magnitude got)) (Err (out_of_range Size hop (64 * hop) got)) ≡ unless (when (not test) (out_of_range Size hop (64 * hop) got)) (magnitude got)
+    by_test : (test : Bool) → cond test (Ok (magnitude got)) (Err (out_of_range Size hop (64 * hop) got)) ≡ first_fault_or (fault_if (not test) (out_of_range Size hop (64 * hop) got)) (magnitude got)
     by_test true = refl
     by_test false = refl
 
@@ -98,16 +98,16 @@ pub if_kind_reads : (field : FieldName) (kind : ValueKind) (default : Tree) (r :
 if_kind_reads field kind default (Ok e) = of_kind_reads field e (kind_fault e kind)
 if_kind_reads field kind default (Err fault) = record { is = refl }
 
-pub expression_reads : (field : FieldName) (kind : ValueKind) (words : List ℕ) → Reads (expression_with field kind words) (expression_faults field kind words) (tree_of words)
+pub expression_reads : (field : FieldName) (kind : ValueKind) (words : List ℕ) → Reads (expression_with field kind words) (expression_faults field kind words) (tree_of_text words)
 unfolding expression_with
 expression_reads field kind words = if_kind_reads field kind (leaf 0 atom.A) (expression_of words)
 
 -- the texts `a` and `b` are numbers of a row
-pub default_a_reads : Reads (expression_with A Num (codes "a")) [] (tree_of (codes "a"))
+pub default_a_reads : Reads (expression_with A Num (codes "a")) [] (tree_of_text (codes "a"))
 unfolding expression_with
 default_a_reads = record { is = refl }
 
-pub default_b_reads : Reads (expression_with B Num (codes "b")) [] (tree_of (codes "b"))
+pub default_b_reads : Reads (expression_with B Num (codes "b")) [] (tree_of_text (codes "b"))
 unfolding expression_with
 default_b_reads = record { is = refl }
 
@@ -148,14 +148,14 @@ module _ (op : Op) (earlier : List Members) (t : Members) where
 
   -- ---- expressions
 
-  pub test_reads : Reads (test_of t) (field_faults (value_faults Where op earlier t) t (may_have Where text)) (option_map tree_of (text_in Where t))
+  pub test_reads : Reads (test_of t) (field_faults (value_faults Where op earlier t) t (may_have Where text)) (option_map tree_of_text (text_in Where t))
   unfolding test_of optional_text
-  test_reads = optional_text_reads Where (value_faults Where op earlier t) test_with (λ words. option_map tree_of words) (done None) (λ words. made (λ e. Some e) (expression_reads Where Truth words)) (get_member (key_of Where) t)
+  test_reads = optional_text_reads Where (value_faults Where op earlier t) test_with (λ words. option_map tree_of_text words) (done None) (λ words. made (λ e. Some e) (expression_reads Where Truth words)) (get_member (key_of Where) t)
 
   pub a_reads : Reads (row_number_of A (codes "a") t) (field_faults (value_faults A op earlier t) t (may_have A text)) (tree_in A (codes "a") t)
   unfolding row_number_of optional_text
-  a_reads = optional_text_reads A (value_faults A op earlier t) (λ words. expression_with A Num (unwrap_or words (codes "a"))) (λ words. tree_of (unwrap_or words (codes "a"))) default_a_reads (λ words. expression_reads A Num words) (get_member (key_of A) t)
+  a_reads = optional_text_reads A (value_faults A op earlier t) (λ words. expression_with A Num (unwrap_or words (codes "a"))) (λ words. tree_of_text (unwrap_or words (codes "a"))) default_a_reads (λ words. expression_reads A Num words) (get_member (key_of A) t)
 
   pub b_reads : Reads (row_number_of B (codes "b") t) (field_faults (value_faults B op earlier t) t (may_have B text)) (tree_in B (codes "b") t)
   unfolding row_number_of optional_text
-  b_reads = optional_text_reads B (value_faults B op earlier t) (λ words. expression_with B Num (unwrap_or words (codes "b"))) (λ words. tree_of (unwrap_or words (codes "b"))) default_b_reads (λ words. expression_reads B Num words) (get_member (key_of B) t)
+  b_reads = optional_text_reads B (value_faults B op earlier t) (λ words. expression_with B Num (unwrap_or words (codes "b"))) (λ words. tree_of_text (unwrap_or words (codes "b"))) default_b_reads (λ words. expression_reads B Num words) (get_member (key_of B) t)

@@ -4,11 +4,11 @@ use Rattle.std.proofs.lemmas.Bool.{false≢true}
 use Rattle.std.proofs.lemmas.List.{length-map, length-append, get_or_append_left}
 use Rattle.std.specs.Prelude.{slice_get, unwrap_or}
 use Rattle.toml.specs.Data.{Items, no_items, item, Members}
-use Rattle.ss_job.specs.Faults.{unless, at, whole, item_count, vertex_faults, vertices_faults, unread_faults}
+use Rattle.ss_job.specs.Faults.{first_fault_or, fault_of_vertex, fault_of_document, item_count, vertex_faults, vertices_faults, unread_faults}
 use Rattle.ss_job.specs.Format.{most_inputs}
 use Rattle.ss_job.specs.JobIn.{op_or_source, kind_of, inputs_in, node_in, nodes_after, nodes_in}
 use Rattle.ss_job.specs.Lookup.{texts_in, tables_of}
-use Rattle.ss_job.specs.Wrong.{when, is_sink_at, number_of}
+use Rattle.ss_job.specs.Wrong.{fault_if, is_sink_at, number_of}
 use Rattle.ss_job.specs.declared.fault.JobWhy.TheVariants.{Unread}
 use Rattle.ss_job.specs.declared.field_name.FieldName.TheVariants.{Inputs}
 use Rattle.ss_job.specs.declared.op.Op.{Op}
@@ -27,7 +27,7 @@ pub record IsNodeAt (before tables : List Members) (v : ℕ) (node : Node) : Typ
   pub earlier : List Members
   pub table : Members
   pub later : List Members
-  pub whole : before ++ tables ≡ earlier ++ (table ∷ later)
+  pub split : before ++ tables ≡ earlier ++ (table ∷ later)
   pub number : length earlier ≡ length before + v
   pub sound : vertex_faults earlier table ≡ []
   pub is : node ≡ node_in earlier table
@@ -38,24 +38,24 @@ some_is e = cc
 pub node_at : (before tables : List Members) (v : ℕ) (node : Node) → vertices_faults before tables ≡ [] → slice_get (nodes_after before tables) v ≡ Some node → IsNodeAt before tables v node
 node_at before [] v node sound here = absurd (cc)
 node_at before (t ∷ tables) zero node sound here =
-    let first = (nothing_in (map (at (length before)) (vertex_faults before t)) (vertices_faults (before ++ t ∷ []) tables) sound).0 in
+    let first = (nothing_in (map (fault_of_vertex (length before)) (vertex_faults before t)) (vertices_faults (before ++ t ∷ []) tables) sound).0 in
     record {
       earlier = before;
       table = t;
       later = tables;
-      whole = refl;
+      split = refl;
       number = omega arith;
-      sound = nothing_mapped (at (length before)) (vertex_faults before t) first;
+      sound = nothing_mapped (fault_of_vertex (length before)) (vertex_faults before t) first;
       is = some_is here;
     }
 node_at before (t ∷ tables) (suc v) node sound here =
-    let rest = (nothing_in (map (at (length before)) (vertex_faults before t)) (vertices_faults (before ++ t ∷ []) tables) sound).1 in
+    let rest = (nothing_in (map (fault_of_vertex (length before)) (vertex_faults before t)) (vertices_faults (before ++ t ∷ []) tables) sound).1 in
     let found = node_at (before ++ t ∷ []) tables v node rest here in
     record {
       earlier = found.earlier;
       table = found.table;
       later = found.later;
-      whole = sym (append_assoc before (t ∷ []) tables) ∙ found.whole;
+      split = sym (append_assoc before (t ∷ []) tables) ∙ found.split;
       number = omega (arith, found.number, length-append before (t ∷ []));
       sound = found.sound;
       is = found.is;
@@ -99,7 +99,7 @@ linked_at earlier t later sound =
 
 -- ---- each stream is read
 
-read_here : (stream read : Bool) → when (stream && not read) Unread ≡ [] → stream ≡ true → read ≡ true
+read_here : (stream read : Bool) → fault_if (stream && not read) Unread ≡ [] → stream ≡ true → read ≡ true
 read_here true true sound is_stream = refl
 read_here true false sound is_stream = absurd (cc)
 read_here false read sound is_stream = absurd (false≢true is_stream)
@@ -108,12 +108,12 @@ read-from : (nodes : List Node) (v : ℕ) (rest : List Node) (k u : ℕ) → unr
 read-from nodes v [] k u sound within place stream = absurd (omega arith)
 read-from nodes v (node ∷ rest) zero u sound within place stream =
     let same : u ≡ v = omega arith in
-    let first = (nothing_in (map (at v) (when (is_stream nodes v && not (is_read nodes v)) Unread)) (unread_faults nodes (v + 1) rest) sound).0 in
-    let here = nothing_mapped (at v) (when (is_stream nodes v && not (is_read nodes v)) Unread) first in
+    let first = (nothing_in (map (fault_of_vertex v) (fault_if (is_stream nodes v && not (is_read nodes v)) Unread)) (unread_faults nodes (v + 1) rest) sound).0 in
+    let here = nothing_mapped (fault_of_vertex v) (fault_if (is_stream nodes v && not (is_read nodes v)) Unread) first in
     let stream_here : is_stream nodes v ≡ true = rw same at stream in
     rw same (read_here (is_stream nodes v) (is_read nodes v) here stream_here)
 read-from nodes v (node ∷ rest) (suc k) u sound within place stream =
-    let others = (nothing_in (map (at v) (when (is_stream nodes v && not (is_read nodes v)) Unread)) (unread_faults nodes (v + 1) rest) sound).1 in
+    let others = (nothing_in (map (fault_of_vertex v) (fault_if (is_stream nodes v && not (is_read nodes v)) Unread)) (unread_faults nodes (v + 1) rest) sound).1 in
     read-from nodes (v + 1) rest k u others (omega arith) (omega arith) stream
 
 -- ---- the graph
@@ -128,7 +128,7 @@ stream_within (node ∷ nodes) zero stream = omega arith
 stream_within (node ∷ nodes) (suc v) stream = omega (arith, stream_within nodes v stream)
 
 linked_node : (tables : List Members) (v : ℕ) (node : Node) (earlier : List Members) (t : Members) (later : List Members) → tables ≡ earlier ++ (t ∷ later) → v ≡ length earlier → vertex_faults earlier t ≡ [] → node ≡ node_in earlier t → IsLinkedAt (nodes_in tables) v node
-linked_node tables v node earlier t later whole number sound is = rw (whole, number, is) (linked_at earlier t later sound)
+linked_node tables v node earlier t later split number sound is = rw (split, number, is) (linked_at earlier t later sound)
 
 pub sound_graph-IsGraph : (tables : List Members) → length tables ≤ 32 → vertices_faults [] tables ≡ [] → unread_faults (nodes_in tables) 0 (nodes_in tables) ≡ [] → IsGraph (nodes_in tables)
 sound_graph-IsGraph tables few sound read =
@@ -136,13 +136,13 @@ sound_graph-IsGraph tables few sound read =
       count = omega (arith, length-nodes_after [] tables);
       linked = λ v node here.
           let found = node_at [] tables v node sound here in
-          linked_node tables v node found.earlier found.table found.later found.whole (omega (arith, found.number)) found.sound found.is;
+          linked_node tables v node found.earlier found.table found.later found.split (omega (arith, found.number)) found.sound found.is;
       read = λ v stream. read-from (nodes_in tables) 0 (nodes_in tables) v v read (stream_within (nodes_in tables) v stream) (omega arith) stream;
     }
 
 -- ---- what was read makes a graph
 
-pub sound_reading : {A F : Type 0} (wrong : List F) (value read : A) → Ok read ≡ unless wrong value → (wrong ≡ []) × (read ≡ value)
+pub sound_reading : {A F : Type 0} (wrong : List F) (value read : A) → Ok read ≡ first_fault_or wrong value → (wrong ≡ []) × (read ≡ value)
 sound_reading [] value read e = (refl, cc)
 sound_reading (fault ∷ wrong) value read e = absurd (cc)
 

@@ -12,6 +12,7 @@ pub mod Refusals
 pub mod SoundFields
 pub mod SoundInputs
 pub mod SoundJob
+pub mod SoundNames
 pub mod StreamLoop
 pub mod VertexReadings
 pub mod Views

@@ -13,7 +13,7 @@ use Rattle.ss_expr.specs.declared.fault.ExprFault.{ExprFault}
 use Rattle.ss_expr.specs.declared.kind.ValueKind.{ValueKind}
 use Rattle.ss_expr.specs.declared.kind.ValueKind.TheVariants.{Num, Text, Truth}
 use Rattle.ss_job.specs.Format.{Field, has, may_have, text, number}
-use Rattle.ss_job.specs.Lookup.{magnitude, tree_of, tree_or}
+use Rattle.ss_job.specs.Lookup.{magnitude, tree_of_text, tree_or}
 use Rattle.ss_job.specs.Sound.{IsFrom, IsWindow}
 use Rattle.ss_job.specs.Wrong.{is_within, is_multiple, out_of_range, range_faults, size_faults, kind_faults, tree_faults, expression_faults, said_faults, field_faults, value_faults}
 use Rattle.ss_job.specs.declared.fault.JobWhy.{JobWhy}
@@ -48,7 +48,7 @@ pub size_from : (hop : ℕ) (got : ℤ) → IsFrom 1 (2 ^ 40) hop → size_fault
 size_from hop got is_hop sound = by_sign got (and_parts (is_within hop (64 * hop) got) (is_multiple hop got) (none_wrong (is_within hop (64 * hop) got && is_multiple hop got) (out_of_range Size hop (64 * hop) got) sound))
   where
     by_sign : (got : ℤ) → (is_within hop (64 * hop) got ≡ true) × (is_multiple hop got ≡ true) → IsWindow (magnitude got) hop
-    by_sign (pos n) parts = record { hop_of = is_hop; size_of = within_from hop (64 * hop) (pos n) parts.0; whole = (Decides-eqb (n % hop) 0).0 parts.1 }
+    by_sign (pos n) parts = record { hop_of = is_hop; size_of = within_from hop (64 * hop) (pos n) parts.0; multiple = (Decides-eqb (n % hop) 0).0 parts.1 }
     by_sign (negsuc n) parts = absurd (false≢true parts.0)
 
 module _ (P : ℕ → Type 0) (field : FieldName) (wrong : Data → List JobWhy) where
@@ -75,6 +75,16 @@ module _ (P : ℕ → Type 0) (field : FieldName) (wrong : Data → List JobWhy)
 -- ---- texts; `P` holds of what the field says
 
 module _ (P : Option (List ℕ) → Type 0) (field : FieldName) (wrong : Data → List JobWhy) where
+  pub needed_text_sound : ((word : List ℕ) → wrong (string word) ≡ [] → P (Some word)) → (o : Option Data) → said_faults wrong (has field text) o ≡ [] → P (option_and_then as_str o)
+  needed_text_sound each None sound = absurd (cc)
+  needed_text_sound each (Some (string word)) sound = each word sound
+  needed_text_sound each (Some (integer n)) sound = absurd (cc)
+  needed_text_sound each (Some (float n)) sound = absurd (cc)
+  needed_text_sound each (Some (boolean n)) sound = absurd (cc)
+  needed_text_sound each (Some (datetime n)) sound = absurd (cc)
+  needed_text_sound each (Some (array n)) sound = absurd (cc)
+  needed_text_sound each (Some (table n)) sound = absurd (cc)
+
   pub optional_text_sound : ((word : List ℕ) → wrong (string word) ≡ [] → P (Some word)) → P None → (o : Option Data) → said_faults wrong (may_have field text) o ≡ [] → P (option_and_then as_str o)
   optional_text_sound each is None sound = is
   optional_text_sound each is (Some (string word)) sound = each word sound
@@ -109,7 +119,7 @@ kind_fault-none e want none = by_misfit (misfit e) refl
     by_misfit (Some at) is = let some = rw is at none in absurd (cc)
     by_misfit None is = let root = rw is at none in record { fitting = is; root = same_kind-is (kind_of e) want (no_fault (same_kind (kind_of e) want) (place e) root) }
 
-pub expression_sound : (field : FieldName) (kind : ValueKind) (words : List ℕ) → expression_faults field kind words ≡ [] → HasKind (tree_of words) kind
+pub expression_sound : (field : FieldName) (kind : ValueKind) (words : List ℕ) → expression_faults field kind words ≡ [] → HasKind (tree_of_text words) kind
 expression_sound field kind words sound = by_reading (expression_of words) sound
   where
     by_kind : (e : Tree) (fault : Option ℕ) → kind_fault e kind ≡ fault → kind_faults field fault ≡ [] → HasKind e kind
@@ -121,8 +131,8 @@ expression_sound field kind words sound = by_reading (expression_of words) sound
     by_reading (Err fault) sound = absurd (cc)
 
 -- the texts of the fields that are left out
-pub default_a_kind : HasKind (tree_of (codes "a")) Num
+pub default_a_kind : HasKind (tree_of_text (codes "a")) Num
 default_a_kind = record { fitting = refl; root = refl }
 
-pub default_b_kind : HasKind (tree_of (codes "b")) Num
+pub default_b_kind : HasKind (tree_of_text (codes "b")) Num
 default_b_kind = record { fitting = refl; root = refl }

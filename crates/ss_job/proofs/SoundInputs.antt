@@ -11,14 +11,14 @@ use Rattle.ss_job.specs.Faults.{called_faults, rest_faults, vertex_faults}
 use Rattle.ss_job.specs.Format.{Field, key_of, has, texts, are_texts, name_field, op_field, fields_of, vertex_keys, most_inputs}
 use Rattle.ss_job.specs.JobIn.{op_in, op_or_source}
 use Rattle.ss_job.specs.Lookup.{text_in, texts_in, texts_of}
-use Rattle.ss_job.specs.Wrong.{when, names_in, number_of, input_faults, inputs_faults, is_sink_at, has_input_count, said_faults, field_faults, unknown_faults, value_faults}
+use Rattle.ss_job.specs.Wrong.{fault_if, names_in, number_of, input_faults, inputs_faults, is_sink_at, has_input_count, said_faults, field_faults, unknown_faults, value_faults}
 use Rattle.ss_job.specs.declared.fault.JobWhy.TheVariants.{UnknownField, WrongInputCount, LaterInput, SinkAsInput}
 use Rattle.ss_job.specs.declared.field_name.FieldName.TheVariants.{Name, Inputs}
 use Rattle.ss_job.specs.declared.op.Op.{Op}
 use Rattle.ss_job.specs.declared.op.Op.TheVariants as op
 use Rattle.ss_job.proofs.Absent.{get_member-absent}
 use Rattle.ss_job.proofs.DocumentReadings.{nothing_in}
-use Rattle.ss_job.proofs.VertexReadings.{name_wrong, op_wrong, wrong_in, none_wrong, op_in-sound}
+use Rattle.ss_job.proofs.VertexReadings.{name_wrong, op_wrong, wrong_in, none_wrong, none_refused, op_in-sound}
 
 -- ---- a vertex
 
@@ -80,7 +80,7 @@ op_inputs op.Sink earlier t only sound = read_inputs op.Sink earlier t (drop 1 (
 pub sound_inputs : (earlier : List Members) (t : Members) → SoundVertex earlier t → SoundInputs earlier t
 sound_inputs earlier t sound =
     let names = texts_in Inputs t in
-    let (count, each) = nothing_in (when (not (has_input_count (op_or_source t) (length names))) WrongInputCount) (flat_map (input_faults earlier) names) (op_inputs (op_or_source t) earlier t sound.only sound.fields) in
+    let (count, each) = nothing_in (fault_if (not (has_input_count (op_or_source t) (length names))) WrongInputCount) (flat_map (input_faults earlier) names) (op_inputs (op_or_source t) earlier t sound.only sound.fields) in
     record { count = none_wrong (has_input_count (op_or_source t) (length names)) WrongInputCount count; each = each }
 
 -- an earlier vertex, which is no sink
@@ -91,17 +91,13 @@ pub record IsEarlierStream (earlier : List Members) (v : ℕ) : Type 0 where
 sound_input : (earlier : List Members) (name : List ℕ) → input_faults earlier name ≡ [] → IsEarlierStream earlier (unwrap_or (number_of earlier name) 0)
 sound_input earlier name sound = by_number (number_of earlier name) refl sound
   where
-    no_sink : (test : Bool) → when test SinkAsInput ≡ [] → test ≡ false
-    no_sink true sound = absurd (cc)
-    no_sink false sound = refl
-
-    by_number : (o : Option ℕ) → number_of earlier name ≡ o → option_map_or (λ v. when (is_sink_at earlier v) SinkAsInput) o (LaterInput ∷ []) ≡ [] → IsEarlierStream earlier (unwrap_or o 0)
+    by_number : (o : Option ℕ) → number_of earlier name ≡ o → option_map_or (λ v. fault_if (is_sink_at earlier v) SinkAsInput) o (LaterInput ∷ []) ≡ [] → IsEarlierStream earlier (unwrap_or o 0)
     by_number None e sound = absurd (cc)
     by_number (Some v) e sound =
         let within : v < length (names_in earlier) = (position-Some (λ other. bytes_eq name other) (names_in earlier) v [] e).0 in
         record {
           within = omega (arith, length-map earlier (λ (t : Members). option_map_or (λ name. name) (text_in Name t) []), within);
-          stream = no_sink (is_sink_at earlier v) sound;
+          stream = none_refused (is_sink_at earlier v) SinkAsInput sound;
         }
 
 pub sound_numbers : (earlier : List Members) (names : List (List ℕ)) → flat_map (input_faults earlier) names ≡ [] → (i : ℕ) → i < length names

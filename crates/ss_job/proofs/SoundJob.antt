@@ -10,26 +10,27 @@ use Rattle.ss_expr.specs.Kinds.{HasKind}
 use Rattle.ss_expr.specs.declared.kind.ValueKind.TheVariants.{Truth, Num}
 use Rattle.ss_fail.specs.declared.role.Role.{Role}
 use Rattle.ss_job.specs.Document.{has_only}
-use Rattle.ss_job.specs.Faults.{at, whole, item_count, vertex_faults, limit_faults, limits_faults, array_faults, vertices_faults, unread_faults, graph_faults, faults, job_of}
+use Rattle.ss_job.specs.Faults.{fault_of_vertex, fault_of_document, item_count, vertex_faults, limit_value_faults, limit_faults, limits_faults, array_faults, vertices_faults, unread_faults, graph_faults, faults, job_of}
 use Rattle.ss_job.specs.Format.{key_of, has, may_have, text, number, fields_of, vertex_keys, document_keys, keys_of, limit_fields, fewest_inputs, most_inputs}
 use Rattle.ss_job.specs.JobIn.{op_or_source, policy_in, select_in, window_in, vertex_in, vertex_with, role_in, node_in, nodes_after, nodes_in, inputs_in, tables_in, limits_in, job_in}
 use Rattle.ss_job.specs.JobText.{VertexText, JobText, op_of_vertex}
-use Rattle.ss_job.specs.Lookup.{number_in, texts_in, tree_of}
+use Rattle.ss_job.specs.Lookup.{number_in, texts_in, tree_of_text}
 use Rattle.ss_job.specs.Reading.{faulty, parts_of, drafts_after, sound_graph, job_with, read_document}
 use Rattle.ss_job.specs.Vertices.{DraftText, empty_draft}
 use Rattle.ss_job.specs.declared.limits.Limits.{Limits}
-use Rattle.ss_job.specs.Sound.{IsFrom, IsPolicy, IsWindow, IsSpec, IsVertexText, IsVertex, IsJob}
-use Rattle.ss_job.specs.Wrong.{when, is_sink, number_of, has_input_count, field_faults, unknown_faults, value_faults}
+use Rattle.ss_job.specs.Sound.{IsFrom, IsPolicy, IsWindow, IsSpec, IsVertexText, HasReplicas, IsVertex, IsJob}
+use Rattle.ss_job.specs.Wrong.{fault_if, is_sink, number_of, has_input_count, field_faults, unknown_faults, value_faults}
 use Rattle.ss_job.specs.declared.fault.JobWhy.TheVariants.{NoSink}
 use Rattle.ss_job.specs.declared.field_name.FieldName.TheVariants.{Job, Vertex, MaxElements, CollectEvery, Inputs, Where, A, B, Size, Hop, Every, Replicas}
 use Rattle.ss_job.specs.declared.op.Op.{Op}
 use Rattle.ss_job.specs.declared.op.Op.TheVariants as op
 use Rattle.ss_water.specs.declared.node.Node.{Node}
 use Rattle.ss_job.proofs.Absent.{get_member-absent}
-use Rattle.ss_job.proofs.DocumentReadings.{limit_wrong, items_in, items_in-sound, tables_in-items, nothing_in, nothing_mapped, read_document-job_of}
+use Rattle.ss_job.proofs.DocumentReadings.{items_in, items_in-sound, tables_in-items, nothing_in, nothing_mapped, sinks-roles, read_document-job_of}
 use Rattle.ss_job.proofs.Graphs.{length-nodes_after, length-tables_of, sound_graph-IsGraph, sound_reading}
 use Rattle.ss_job.proofs.SoundFields.{wrong_at, range_sound, size_from, needed_number_sound, optional_number_sound, optional_text_sound, expression_sound, default_a_kind, default_b_kind}
 use Rattle.ss_job.proofs.SoundInputs.{sound_vertex, sound_inputs}
+use Rattle.ss_job.proofs.SoundNames.{sound_name, sound_source_file, sound_sink_file, names_distinct, files_distinct}
 use Rattle.ss_job.proofs.VertexReadings.{wrong_in, none_wrong}
 
 -- ---- the fields of a vertex
@@ -48,9 +49,9 @@ module _ (o : Op) (earlier : List Members) (t : Members) (sound : wrong_in o ear
 
 select_sound : (earlier : List Members) (t : Members) → wrong_in op.Select earlier t (fields_of op.Select) ≡ [] → IsSpec (select_in t)
 select_sound earlier t sound = (
-  optional_text_sound (λ words. IfSome (option_map tree_of words) (λ e. HasKind e Truth)) Where (value_faults Where op.Select earlier t) (λ words none. expression_sound Where Truth words none) tt (get_member (key_of Where) t) (wrong_at op.Select earlier t (fields_of op.Select) 1 (may_have Where text) refl sound),
-  optional_text_sound (λ words. HasKind (tree_of (unwrap_or words (codes "a"))) Num) A (value_faults A op.Select earlier t) (λ words none. expression_sound A Num words none) default_a_kind (get_member (key_of A) t) (wrong_at op.Select earlier t (fields_of op.Select) 2 (may_have A text) refl sound),
-  optional_text_sound (λ words. HasKind (tree_of (unwrap_or words (codes "b"))) Num) B (value_faults B op.Select earlier t) (λ words none. expression_sound B Num words none) default_b_kind (get_member (key_of B) t) (wrong_at op.Select earlier t (fields_of op.Select) 3 (may_have B text) refl sound),
+  optional_text_sound (λ words. IfSome (option_map tree_of_text words) (λ e. HasKind e Truth)) Where (value_faults Where op.Select earlier t) (λ words none. expression_sound Where Truth words none) tt (get_member (key_of Where) t) (wrong_at op.Select earlier t (fields_of op.Select) 1 (may_have Where text) refl sound),
+  optional_text_sound (λ words. HasKind (tree_of_text (unwrap_or words (codes "a"))) Num) A (value_faults A op.Select earlier t) (λ words none. expression_sound A Num words none) default_a_kind (get_member (key_of A) t) (wrong_at op.Select earlier t (fields_of op.Select) 2 (may_have A text) refl sound),
+  optional_text_sound (λ words. HasKind (tree_of_text (unwrap_or words (codes "b"))) Num) B (value_faults B op.Select earlier t) (λ words none. expression_sound B Num words none) default_b_kind (get_member (key_of B) t) (wrong_at op.Select earlier t (fields_of op.Select) 3 (may_have B text) refl sound),
 )
 
 window_sound : (earlier : List Members) (t : Members) → wrong_in op.Window earlier t (fields_of op.Window) ≡ [] → IsSpec (window_in t)
@@ -59,12 +60,12 @@ window_sound earlier t sound =
     needed_number_sound (λ size. IsWindow size (number_in Hop 0 t)) Size (value_faults Size op.Window earlier t) (λ got none. size_from (number_in Hop 0 t) got hop none) (get_member (key_of Size) t) 0 (wrong_at op.Window earlier t (fields_of op.Window) 2 (has Size number) refl sound)
 
 vertex_text_sound : (o : Op) (earlier : List Members) (t : Members) → wrong_in o earlier t (fields_of o) ≡ [] → IsVertexText (vertex_with o t)
-vertex_text_sound op.Source earlier t sound = tt
+vertex_text_sound op.Source earlier t sound = sound_source_file earlier t sound
 vertex_text_sound op.Select earlier t sound = (select_sound earlier t sound, policy_sound op.Select earlier t sound 5 6 refl refl)
 vertex_text_sound op.Union earlier t sound = (tt, policy_sound op.Union earlier t sound 2 3 refl refl)
 vertex_text_sound op.Window earlier t sound = (window_sound earlier t sound, policy_sound op.Window earlier t sound 6 7 refl refl)
 vertex_text_sound op.Join earlier t sound = (tt, policy_sound op.Join earlier t sound 2 3 refl refl)
-vertex_text_sound op.Sink earlier t sound = tt
+vertex_text_sound op.Sink earlier t sound = (sound_sink_file earlier t sound).legal
 
 role_replicas : (o : Op) (earlier : List Members) (t : Members) → has_only (vertex_keys o) t ≡ true → wrong_in o earlier t (fields_of o) ≡ [] → IsFrom 1 4 (number_in Replicas 1 t)
 role_replicas op.Source earlier t only sound = replicas_sound op.Source earlier t sound 2 refl
@@ -73,6 +74,14 @@ role_replicas op.Union earlier t only sound = replicas_sound op.Union earlier t 
 role_replicas op.Window earlier t only sound = replicas_sound op.Window earlier t sound 7 refl
 role_replicas op.Join earlier t only sound = replicas_sound op.Join earlier t sound 3 refl
 role_replicas op.Sink earlier t only sound = rw (get_member-absent (key_of Replicas) (vertex_keys op.Sink) t only refl) (record { least_of = omega arith; most_of = omega arith })
+
+own_replicas : (o : Op) (earlier : List Members) (t : Members) → has_only (vertex_keys o) t ≡ true → wrong_in o earlier t (fields_of o) ≡ [] → HasReplicas (vertex_with o t) (number_in Replicas 1 t)
+own_replicas op.Source earlier t only sound = replicas_sound op.Source earlier t sound 2 refl
+own_replicas op.Select earlier t only sound = refl
+own_replicas op.Union earlier t only sound = refl
+own_replicas op.Window earlier t only sound = refl
+own_replicas op.Join earlier t only sound = refl
+own_replicas op.Sink earlier t only sound = rw (get_member-absent (key_of Replicas) (vertex_keys op.Sink) t only refl) refl
 
 -- ---- a vertex
 
@@ -97,10 +106,12 @@ vertex_is earlier t sound =
     let takes : has_input_count (op_or_source t) (length (inputs_in earlier t)) ≡ true = rw width at inputs.count in
     let same = op_of-vertex_with (op_or_source t) t in
     record {
+      name = (sound_name earlier t sound).legal;
       role_kind = rw same;
       node_kind = rw same;
       inputs = rw same (count_from (op_or_source t) (length (inputs_in earlier t)) takes);
       replicas = role_replicas (op_or_source t) earlier t vertex.only vertex.fields;
+      own_replicas = own_replicas (op_or_source t) earlier t vertex.only vertex.fields;
       sound = vertex_text_sound (op_or_source t) earlier t vertex.fields;
     }
 
@@ -116,10 +127,10 @@ table_at : (before tables : List Members) (v : ℕ) (t : Members) → vertices_f
 table_at before [] v t sound here = absurd (cc)
 table_at before (first ∷ tables) zero t sound here =
     let same : first ≡ t = cc in
-    let none = (nothing_in (map (at (length before)) (vertex_faults before first)) (vertices_faults (before ++ first ∷ []) tables) sound).0 in
-    rw (← same) (record { earlier = before; node_of = refl; sound = nothing_mapped (at (length before)) (vertex_faults before first) none })
+    let none = (nothing_in (map (fault_of_vertex (length before)) (vertex_faults before first)) (vertices_faults (before ++ first ∷ []) tables) sound).0 in
+    rw (← same) (record { earlier = before; node_of = refl; sound = nothing_mapped (fault_of_vertex (length before)) (vertex_faults before first) none })
 table_at before (first ∷ tables) (suc v) t sound here =
-    table_at (before ++ first ∷ []) tables v t (nothing_in (map (at (length before)) (vertex_faults before first)) (vertices_faults (before ++ first ∷ []) tables) sound).1 here
+    table_at (before ++ first ∷ []) tables v t (nothing_in (map (fault_of_vertex (length before)) (vertex_faults before first)) (vertices_faults (before ++ first ∷ []) tables) sound).1 here
 
 each_vertex : (tables : List Members) → vertices_faults [] tables ≡ [] → (v : ℕ) (role : Role) (node : Node) (vertex : VertexText) → slice_get (map role_in tables) v ≡ Some role → slice_get (nodes_in tables) v ≡ Some node → slice_get (map vertex_in tables) v ≡ Some vertex → IsVertex role node vertex
 each_vertex tables sound v role node vertex role_at node_at vertex_at =
@@ -141,12 +152,12 @@ limits_are limits = IsFrom 1 131072 (number_in MaxElements 131072 limits) × IsF
 
 limits_from_sound : (limits : Members) → limit_faults limits ≡ [] → limits_are limits
 limits_from_sound limits sound =
-    let first = field_faults (limit_wrong MaxElements limits) limits (may_have MaxElements number) in
-    let second = field_faults (limit_wrong CollectEvery limits) limits (may_have CollectEvery number) in
+    let first = field_faults (limit_value_faults MaxElements limits) limits (may_have MaxElements number) in
+    let second = field_faults (limit_value_faults CollectEvery limits) limits (may_have CollectEvery number) in
     let (max_elements, rest) = nothing_in first (second ++ []) (nothing_in (unknown_faults (keys_of limit_fields) limits) (first ++ (second ++ [])) sound).1 in
     let (collect_every, _) = nothing_in second [] rest in (
-      optional_number_sound (IsFrom 1 131072) MaxElements (limit_wrong MaxElements limits) (range_sound MaxElements 1 131072) (get_member (key_of MaxElements) limits) 131072 (record { least_of = omega arith; most_of = omega arith }) max_elements,
-      optional_number_sound (IsFrom 64 131072) CollectEvery (limit_wrong CollectEvery limits) (range_sound CollectEvery 64 131072) (get_member (key_of CollectEvery) limits) 256 (record { least_of = omega arith; most_of = omega arith }) collect_every,
+      optional_number_sound (IsFrom 1 131072) MaxElements (limit_value_faults MaxElements limits) (range_sound MaxElements 1 131072) (get_member (key_of MaxElements) limits) 131072 (record { least_of = omega arith; most_of = omega arith }) max_elements,
+      optional_number_sound (IsFrom 64 131072) CollectEvery (limit_value_faults CollectEvery limits) (range_sound CollectEvery 64 131072) (get_member (key_of CollectEvery) limits) 256 (record { least_of = omega arith; most_of = omega arith }) collect_every,
     )
 
 limits_sound : (document : Members) → limits_faults (get_member (key_of Job) document) ≡ [] → limits_are (limits_in document)
@@ -179,11 +190,11 @@ tables_sound : (document : Members) → array_faults (get_member (key_of Vertex)
 tables_sound document entries vertices graph =
     let tables = tables_in document in
     let few = ltb-false 32 (item_count (items_in document)) (items_in-sound document entries).few in
-    let (sink, read) = nothing_in (map whole (when (not (list_any is_sink tables)) NoSink)) (unread_faults (nodes_in tables) 0 (nodes_in tables)) graph in
+    let (sink, read) = nothing_in (map fault_of_document (fault_if (not (list_any is_sink tables)) NoSink)) (unread_faults (nodes_in tables) 0 (nodes_in tables)) graph in
     record {
       few = rw (tables_in-items document) (omega (arith, length-tables_of (items_in document), few));
       vertices = vertices;
-      sink = none_wrong (list_any is_sink tables) NoSink (nothing_mapped whole (when (not (list_any is_sink tables)) NoSink) sink);
+      sink = none_wrong (list_any is_sink tables) NoSink (nothing_mapped fault_of_document (fault_if (not (list_any is_sink tables)) NoSink) sink);
       read = read;
     }
 
@@ -198,6 +209,9 @@ job_is document limits sound =
       roles = omega (arith, nodes, length-map tables role_in);
       vertices = omega (arith, nodes, length-map tables vertex_in);
       each = each_vertex tables sound.vertices;
+      sink = sinks-roles tables ∙ sound.sink;
+      names = names_distinct tables sound.vertices;
+      files = files_distinct tables sound.vertices;
       max_elements = limits.0;
       collect_every = limits.1;
     }
@@ -207,9 +221,9 @@ sound_job document sound =
     let unknown = unknown_faults document_keys document in
     let limits = limits_faults (get_member (key_of Job) document) in
     let items = array_faults (get_member (key_of Vertex) document) in
-    let (front, graph) = nothing_in (map whole ((unknown ++ limits) ++ items) ++ vertices_faults [] (tables_in document)) (graph_faults (tables_in document)) sound in
-    let (document_faults, vertices) = nothing_in (map whole ((unknown ++ limits) ++ items)) (vertices_faults [] (tables_in document)) front in
-    let (before, entries) = nothing_in (unknown ++ limits) items (nothing_mapped whole ((unknown ++ limits) ++ items) document_faults) in
+    let (front, graph) = nothing_in (map fault_of_document ((unknown ++ limits) ++ items) ++ vertices_faults [] (tables_in document)) (graph_faults (tables_in document)) sound in
+    let (document_faults, vertices) = nothing_in (map fault_of_document ((unknown ++ limits) ++ items)) (vertices_faults [] (tables_in document)) front in
+    let (before, entries) = nothing_in (unknown ++ limits) items (nothing_mapped fault_of_document ((unknown ++ limits) ++ items) document_faults) in
     job_is document (limits_sound document (nothing_in unknown limits before).1) (tables_sound document entries vertices graph)
 
 -- the job that a document says is sound
@@ -219,7 +233,7 @@ job_of-sound document job says =
     rw is (sound_job document none)
 
 -- so is the job that is made of what was read
-pub read-sound : (document : Members) (limits : Limits) (items : Items) (draft : DraftText) → Ok (limits, items) ≡ faulty whole (parts_of document) → drafts_after 0 empty_draft items ≡ Ok draft → Ok tt ≡ sound_graph draft → IsJob (job_with draft limits)
+pub read-sound : (document : Members) (limits : Limits) (items : Items) (draft : DraftText) → Ok (limits, items) ≡ faulty fault_of_document (parts_of document) → drafts_after 0 empty_draft items ≡ Ok draft → Ok tt ≡ sound_graph draft → IsJob (job_with draft limits)
 unfolding read_document
 read-sound document limits items draft parts drafts graph =
     let read : read_document document ≡ Ok (job_with draft limits) = rw (← parts, drafts, ← graph) in

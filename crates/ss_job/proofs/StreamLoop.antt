@@ -1,7 +1,7 @@
 -- The loop that tests that each stream is read.
 use Rattle.std.proofs.Common.{◌≡◌, ℕ, ◌+◌, ◌<◌, ◌≤◌, true, false, not, ◌&&◌, List, [], length, drop, drop_of_length-le, Ok, Err}
 use Rattle.std.proofs.lemmas.List.{drop_more}
-use Rattle.ss_job.specs.Faults.{at}
+use Rattle.ss_job.specs.Faults.{fault_of_vertex}
 use Rattle.ss_job.specs.Reading.{read_streams}
 use Rattle.ss_job.specs.declared.fault.JobWhy.TheVariants.{Unread}
 use Rattle.ss_water.specs.Graph.{is_stream, is_read}
@@ -16,7 +16,7 @@ pub streams-more : (nodes : List Node) (v : ℕ) → v < length nodes → (is_st
 unfolding read_streams
 streams-more nodes v within read = rw (drop_more nodes v any_node within, read)
 
-pub streams-stop : (nodes : List Node) (v : ℕ) → v < length nodes → (is_stream nodes v && not (is_read nodes v)) ≡ true → read_streams nodes v (drop v nodes) ≡ Err (at v Unread)
+pub streams-stop : (nodes : List Node) (v : ℕ) → v < length nodes → (is_stream nodes v && not (is_read nodes v)) ≡ true → read_streams nodes v (drop v nodes) ≡ Err (fault_of_vertex v Unread)
 unfolding read_streams
 streams-stop nodes v within unread = rw (drop_more nodes v any_node within, unread)
 

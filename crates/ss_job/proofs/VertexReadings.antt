@@ -11,15 +11,15 @@ use Rattle.toml.specs.Data.{Data, string, integer, float, boolean, datetime, arr
 use Rattle.ss_expr.specs.declared.stream_operator.Spec.{Spec}
 use Rattle.ss_expr.specs.declared.stream_operator.Spec.TheVariants as spec
 use Rattle.ss_job.specs.Document.{has_only}
-use Rattle.ss_job.specs.Faults.{unless, item_count, rest_faults, vertex_faults}
+use Rattle.ss_job.specs.Faults.{first_fault_or, item_count, rest_faults, vertex_faults}
 use Rattle.ss_job.specs.Fields.{◌>>=◌, ◌>>◌, refuse, required, needed, as_texts, needed_text, needed_texts}
 use Rattle.ss_job.specs.Format.{Field, key_of, has, may_have, text, number, texts, are_texts, name_field, op_field, inner_fields, fields_of, vertex_keys}
 use Rattle.ss_job.specs.JobIn.{op_in, op_or_source, policy_in, select_in, window_in, file_in, vertex_with, inputs_in, nodes_in}
 use Rattle.ss_job.specs.JobText.{inner}
 use Rattle.ss_job.specs.Lookup.{op_named, text_in, number_in, texts_of}
-use Rattle.ss_job.specs.Names.{is_vertex_name, is_file_name}
+use Rattle.ss_job.specs.LegalNames.{is_vertex_name, is_file_name}
 use Rattle.ss_job.specs.Vertices.{EntryText, name_of, op_of, if_stream, input_of, input_at, numbers_of, inputs_of, source_file_of, sink_file_of, writes_to, policy_of, select_of, window_of, operator_of, source_of, select_entry, window_entry, plain_entry, sink_of, entry_of, with_vertex, draft_after}
-use Rattle.ss_job.specs.Wrong.{when, name_faults, names_in, is_among, sink_files, input_faults, inputs_faults, is_sink_at, number_of, has_input_count, said_faults, field_faults, value_faults}
+use Rattle.ss_job.specs.Wrong.{fault_if, name_faults, names_in, is_among, sink_files, input_faults, inputs_faults, is_sink_at, number_of, has_input_count, said_faults, field_faults, value_faults}
 use Rattle.ss_job.specs.declared.fault.JobWhy.{JobWhy}
 use Rattle.ss_job.specs.declared.fault.JobWhy.TheVariants.{BadName, RepeatedName, RepeatedFile, BadOp, UnknownField, LaterInput, SinkAsInput, WrongInputCount}
 use Rattle.ss_job.specs.declared.field_name.FieldName.TheVariants.{Name, Op as OpField, Inputs, File, A, B, Where, Size, Hop, Agg, Of, Replicas}
@@ -43,13 +43,13 @@ name_reads earlier t = needed_text_reads Name (name_wrong earlier) _ (λ word. u
     tested word = then _ (refused (not (is_vertex_name word)) BadName) (λ _. made (λ _. word) (refused (is_among word (names_in earlier)) RepeatedName))
 
 abbrev pub op_wrong : Data → List JobWhy
-op_wrong value = option_map_or (λ word. when (not (is_some (op_named word))) BadOp) (as_str value) []
+op_wrong value = option_map_or (λ word. fault_if (not (is_some (op_named word))) BadOp) (as_str value) []
 
 pub op_reads : (t : Members) → Reads (op_of t) (field_faults op_wrong t op_field) (op_or_source t)
 unfolding op_of needed_text
 op_reads t = needed_text_reads OpField op_wrong _ (λ word. unwrap_or (option_and_then op_named word) op.Source) (λ word. named (op_named word)) (get_member (key_of OpField) t)
   where
-    named : (o : Option Op) → Reads (required o BadOp) (when (not (is_some o)) BadOp) (unwrap_or o op.Source)
+    named : (o : Option Op) → Reads (required o BadOp) (fault_if (not (is_some o)) BadOp) (unwrap_or o op.Source)
     named None = record { is = refl }
     named (Some o) = record { is = refl }
 
@@ -57,7 +57,7 @@ op_reads t = needed_text_reads OpField op_wrong _ (λ word. unwrap_or (option_an
 pub op_in-sound : (t : Members) → field_faults op_wrong t op_field ≡ [] → op_in t ≡ Some (op_or_source t)
 op_in-sound t sound = by_value (get_member (key_of OpField) t) sound
   where
-    by_op : (o : Option Op) → when (not (is_some o)) BadOp ≡ [] → o ≡ Some (unwrap_or o op.Source)
+    by_op : (o : Option Op) → fault_if (not (is_some o)) BadOp ≡ [] → o ≡ Some (unwrap_or o op.Source)
     by_op None sound = absurd (cc)
     by_op (Some o) sound = refl
 
@@ -74,10 +74,10 @@ op_in-sound t sound = by_value (get_member (key_of OpField) t) sound
 -- ---- inputs
 
 module _ (earlier : List Members) where
-  stream_reads : (v : ℕ) → v < length earlier → Reads (if_stream (nodes_in earlier) v) (when (is_sink_at earlier v) SinkAsInput) v
+  stream_reads : (v : ℕ) → v < length earlier → Reads (if_stream (nodes_in earlier) v) (fault_if (is_sink_at earlier v) SinkAsInput) v
   stream_reads v within = rw (streams_within [] earlier v within) (by_test (is_sink_at earlier v))
     where
-      by_test : (sink : Bool) → Reads (cond (not sink) (Ok v) (Err SinkAsInput)) (when sink SinkAsInput) v
+      by_test : (sink : Bool) → Reads (cond (not sink) (Ok v) (Err SinkAsInput)) (fault_if sink SinkAsInput) v
       by_test true = record { is = refl }
       by_test false = record { is = refl }
 
@@ -85,7 +85,7 @@ module _ (earlier : List Members) where
   unfolding input_of
   input_reads name = by_number (number_of earlier name) refl
     where
-      by_number : (o : Option ℕ) → number_of earlier name ≡ o → Reads (required o LaterInput >>= if_stream (nodes_in earlier)) (option_map_or (λ v. when (is_sink_at earlier v) SinkAsInput) o (LaterInput ∷ [])) (unwrap_or o 0)
+      by_number : (o : Option ℕ) → number_of earlier name ≡ o → Reads (required o LaterInput >>= if_stream (nodes_in earlier)) (option_map_or (λ v. fault_if (is_sink_at earlier v) SinkAsInput) o (LaterInput ∷ [])) (unwrap_or o 0)
       by_number None e = record { is = refl }
       by_number (Some v) e =
           let within : v < length (names_in earlier) = (position-Some (λ other. bytes_eq name other) (names_in earlier) v [] e).0 in
@@ -138,14 +138,14 @@ pub source_file_reads : (earlier : List Members) (t : Members) → Reads (source
 unfolding source_file_of needed_text
 source_file_reads earlier t = needed_text_reads File (value_faults File op.Source earlier t) _ (λ word. unwrap_or word []) tested (get_member (key_of File) t)
   where
-    tested : (file : List ℕ) → Reads (refuse (not (is_file_name file)) BadName >> (refuse (bytes_eq file (codes "-")) BadName >> Ok file)) (when (not (is_file_name file)) BadName ++ when (bytes_eq file (codes "-")) BadName) file
+    tested : (file : List ℕ) → Reads (refuse (not (is_file_name file)) BadName >> (refuse (bytes_eq file (codes "-")) BadName >> Ok file)) (fault_if (not (is_file_name file)) BadName ++ fault_if (bytes_eq file (codes "-")) BadName) file
     tested file = then _ (refused (not (is_file_name file)) BadName) (λ _. made (λ _. file) (refused (bytes_eq file (codes "-")) BadName))
 
 pub sink_file_reads : (earlier : List Members) (t : Members) → Reads (sink_file_of (draft_in earlier).vertices t) (field_faults (value_faults File op.Sink earlier t) t (has File text)) (file_in t)
 unfolding sink_file_of needed_text
 sink_file_reads earlier t = needed_text_reads File (value_faults File op.Sink earlier t) _ (λ word. unwrap_or word []) tested (get_member (key_of File) t)
   where
-    tested : (file : List ℕ) → Reads (refuse (not (is_file_name file)) BadName >> (refuse (list_any (writes_to file) (draft_in earlier).vertices) RepeatedFile >> Ok file)) (when (not (is_file_name file)) BadName ++ when (is_among file (sink_files earlier)) RepeatedFile) file
+    tested : (file : List ℕ) → Reads (refuse (not (is_file_name file)) BadName >> (refuse (list_any (writes_to file) (draft_in earlier).vertices) RepeatedFile >> Ok file)) (fault_if (not (is_file_name file)) BadName ++ fault_if (is_among file (sink_files earlier)) RepeatedFile) file
     tested file = rw (written-files file earlier) (then _ (refused (not (is_file_name file)) BadName) (λ _. made (λ _. file) (refused (is_among file (sink_files earlier)) RepeatedFile)))
 
 -- ---- what the op says
@@ -181,7 +181,7 @@ source_reads earlier t only =
 -- what is wrong with two groups of fields, one after the other
 two_groups : {A : Type 0} {r : Result A JobWhy} {v : A} (o : Op) (earlier : List Members) (t : Members) (first second : List Field) → Reads r (wrong_in o earlier t first ++ wrong_in o earlier t second) v → Reads r (wrong_in o earlier t (first ++ second)) v
 two_groups {r} {v} o earlier t first second reads =
-    record { is = reads.is ∙ ap (λ wrong. unless wrong v) (sym (flat_map-append (λ (field : Field). field_faults (value_faults field.name o earlier t) t field) first second)) }
+    record { is = reads.is ∙ ap (λ wrong. first_fault_or wrong v) (sym (flat_map-append (λ (field : Field). field_faults (value_faults field.name o earlier t) t field) first second)) }
 
 abbrev select_fields : List Field
 select_fields = may_have Where text ∷ may_have A text ∷ may_have B text ∷ []
@@ -238,9 +238,13 @@ entry_reads op.Sink earlier t only = sink_reads earlier t only
 
 -- ---- a vertex
 
-pub none_wrong : (test : Bool) (why : JobWhy) → when (not test) why ≡ [] → test ≡ true
+pub none_wrong : (test : Bool) (why : JobWhy) → fault_if (not test) why ≡ [] → test ≡ true
 none_wrong true why sound = refl
 none_wrong false why sound = absurd (cc)
+
+pub none_refused : (test : Bool) (why : JobWhy) → fault_if test why ≡ [] → test ≡ false
+none_refused true why sound = absurd (cc)
+none_refused false why sound = refl
 
 pub vertex_reads : (earlier : List Members) (t : Members) → Reads (draft_after (draft_in earlier) t) (vertex_faults earlier t) (draft_in (earlier ++ t ∷ []))
 unfolding draft_after

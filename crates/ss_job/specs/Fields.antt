@@ -1,5 +1,6 @@
 -- A plain reader of the fields of a table: what a field holds, or what is wrong with it.
-use Rattle.std.specs.Prelude.{ℕ, ℤ, ◌*◌, Bool, false, ◌&&◌, List, Option, Some, None, option_and_then, Result, Ok, Err, unwrap_or, if◌then◌else◌, ⊤}
+use Rattle.std.specs.Prelude.{ℕ, ℤ, ◌*◌, Bool, false, ◌&&◌, List, Option, Some, None, option_and_then, Result, Ok}
+use Rattle.std.specs.Prelude.{Err, unwrap_or, if◌then◌else◌, ⊤}
 use Rattle.toml.specs.Data.{Data, Items, Members, as_str, as_integer, as_array, get_member}
 use Rattle.ss_events.specs.declared.late.Late.{Late}
 use Rattle.ss_events.specs.declared.late.Late.TheVariants.{Refuse}
@@ -73,7 +74,8 @@ needed_texts field table = needed as_texts field (get_member (key_of field) tabl
 -- ---- numbers
 
 abbrev pub in_range : FieldName → ℕ → ℕ → ℤ → Result ℕ JobWhy
-in_range field least most got = if is_within least most got then Ok (magnitude got) else Err (out_of_range field least most got)
+in_range field least most got =
+    if is_within least most got then Ok (magnitude got) else Err (out_of_range field least most got)
 
 abbrev pub in_range_or : FieldName → ℕ → ℕ → ℕ → Option ℤ → Result ℕ JobWhy
 in_range_or field default least most None = Ok default
@@ -87,7 +89,9 @@ optional_number field default least most table = optional_integer field table >>
 
 -- a size of one to 64 hops, and whole hops
 abbrev pub whole_hops : ℕ → ℤ → Result ℕ JobWhy
-whole_hops hop got = if is_within hop (64 * hop) got && is_multiple hop got then Ok (magnitude got) else Err (out_of_range Size hop (64 * hop) got)
+whole_hops hop got =
+    if is_within hop (64 * hop) got && is_multiple hop got then Ok (magnitude got)
+    else Err (out_of_range Size hop (64 * hop) got)
 
 unfoldable pub size_of : ℕ → Members → Result ℕ JobWhy
 size_of hop table = needed_integer Size table >>= whole_hops hop
@@ -133,4 +137,5 @@ test_of table = optional_text Where table >>= test_with
 
 -- a number of the rows, whose text is `default` where the field is left out
 unfoldable pub row_number_of : FieldName → List ℕ → Members → Result Tree JobWhy
-row_number_of field default table = optional_text field table >>= (λ text. expression_with field Num (unwrap_or text default))
+row_number_of field default table =
+    optional_text field table >>= (λ text. expression_with field Num (unwrap_or text default))

@@ -3,7 +3,9 @@
 use Rattle.std.specs.Prelude.{ℕ, Bool, true, false, ◌&&◌, List, [], ◌∷◌, map, codes, is_some}
 use Rattle.toml.specs.Data.{Data, Items, no_items, item, as_str, as_integer, array}
 use Rattle.ss_job.specs.declared.field_name.FieldName.{FieldName}
-use Rattle.ss_job.specs.declared.field_name.FieldName.TheVariants.{Job, Vertex, MaxElements, CollectEvery, Name, Op, Inputs, File, Late, Where, A, B, Size, Hop, Agg, Of, Recover, Every, Replicas}
+use Rattle.ss_job.specs.declared.field_name.FieldName.TheVariants.{Job, Vertex, MaxElements, CollectEvery, Name, Op}
+use Rattle.ss_job.specs.declared.field_name.FieldName.TheVariants.{Inputs, File, Late, Where, A, B, Size, Hop, Agg}
+use Rattle.ss_job.specs.declared.field_name.FieldName.TheVariants.{Of, Recover, Every, Replicas}
 use Rattle.ss_job.specs.declared.op.Op.{Op as Operator}
 use Rattle.ss_job.specs.declared.op.Op.TheVariants.{Source, Select, Union, Window, Join, Sink}
 

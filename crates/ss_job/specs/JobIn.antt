@@ -1,5 +1,6 @@
 -- The job that a document says, where nothing is wrong with it: field by field, with the defaults of the format.
-use Rattle.std.specs.Prelude.{ℕ, ◌-◌, false, List, [], ◌∷◌, ◌++◌, length, map, replicate, unwrap_or, Option, option_map, option_and_then, codes}
+use Rattle.std.specs.Prelude.{ℕ, ◌-◌, false, List, [], ◌∷◌, ◌++◌, length, map, replicate, unwrap_or, Option}
+use Rattle.std.specs.Prelude.{option_map, option_and_then, codes}
 use Rattle.std.specs.Option.{option_map_or}
 use Rattle.toml.specs.Data.{Members, no_members, get_member, as_array, as_table}
 use Rattle.ss_events.specs.declared.late.Late.TheVariants.{Refuse}
@@ -10,9 +11,12 @@ use Rattle.ss_expr.specs.declared.stream_operator.Spec.TheVariants as spec
 use Rattle.ss_fail.specs.declared.role.Role.{Role}
 use Rattle.ss_job.specs.Format.{key_of}
 use Rattle.ss_job.specs.JobText.{VertexText, source, inner, sink, JobText}
-use Rattle.ss_job.specs.Lookup.{text_in, number_in, texts_in, tables_of, word_in, tree_in, tree_of, op_named, late_named, agg_named, value_named, replay_named}
+use Rattle.ss_job.specs.Lookup.{text_in, number_in, texts_in, tables_of, word_in, tree_in, tree_of_text, op_named}
+use Rattle.ss_job.specs.Lookup.{late_named, agg_named, value_named, replay_named}
 use Rattle.ss_job.specs.Wrong.{number_of}
-use Rattle.ss_job.specs.declared.field_name.FieldName.TheVariants.{Job, Vertex, MaxElements, CollectEvery, Name, Inputs, File, Late, Where, A, B, Size, Hop, Agg, Of, Recover, Every, Replicas, Op}
+use Rattle.ss_job.specs.declared.field_name.FieldName.TheVariants.{Job, Vertex, MaxElements, CollectEvery, Name}
+use Rattle.ss_job.specs.declared.field_name.FieldName.TheVariants.{Inputs, File, Late, Where, A, B, Size, Hop, Agg}
+use Rattle.ss_job.specs.declared.field_name.FieldName.TheVariants.{Of, Recover, Every, Replicas, Op}
 use Rattle.ss_job.specs.declared.op.Op.{Op as Operator}
 use Rattle.ss_job.specs.declared.op.Op.TheVariants as op
 use Rattle.ss_job.specs.declared.policy.Policy.{Policy}
@@ -37,14 +41,23 @@ kind_of op.Sink = kind.Sink
 kind_of _ = kind.Inner
 
 abbrev pub policy_in : Members → Policy
-policy_in table = record { replay = word_in replay_named Recover false table; every = number_in Every 64 table; replicas = number_in Replicas 1 table }
+policy_in table =
+    record {
+      replay = word_in replay_named Recover false table;
+      every = number_in Every 64 table;
+      replicas = number_in Replicas 1 table;
+    }
 
 -- what each operator computes
 abbrev pub select_in : Members → Spec
-select_in table = spec.Select (option_map tree_of (text_in Where table)) (tree_in A (codes "a") table) (tree_in B (codes "b") table)
+select_in table =
+    spec.Select (option_map tree_of_text (text_in Where table))
+    (tree_in A (codes "a") table) (tree_in B (codes "b") table)
 
 abbrev pub window_in : Members → Spec
-window_in table = spec.Window (number_in Size 0 table) (number_in Hop 0 table) (word_in agg_named Agg agg.Sum table) (word_in value_named Of value.A table)
+window_in table =
+    spec.Window (number_in Size 0 table) (number_in Hop 0 table)
+    (word_in agg_named Agg agg.Sum table) (word_in value_named Of value.A table)
 
 -- the file of a source or a sink
 abbrev pub file_in : Members → List ℕ
@@ -66,7 +79,12 @@ abbrev pub vertex_in : Members → VertexText
 vertex_in table = vertex_with (op_or_source table) table
 
 abbrev pub role_in : Members → Role
-role_in table = record { name = unwrap_or (text_in Name table) []; kind = kind_of (op_or_source table); replicas = number_in Replicas 1 table }
+role_in table =
+    record {
+      name = unwrap_or (text_in Name table) [];
+      kind = kind_of (op_or_source table);
+      replicas = number_in Replicas 1 table;
+    }
 
 -- the numbers of the vertices that a vertex reads, and behind them zeros up to eight
 abbrev pub inputs_in : List Members → Members → List ℕ
@@ -75,7 +93,11 @@ inputs_in earlier table = map (λ name. unwrap_or (number_of earlier name) 0) (t
 abbrev pub node_in : List Members → Members → Node
 node_in earlier table =
     let inputs = inputs_in earlier table in
-    record { kind = kind_of (op_or_source table); inputs = inputs ++ replicate (8 - length inputs) 0; width = length inputs }
+    record {
+      kind = kind_of (op_or_source table);
+      inputs = inputs ++ replicate (8 - length inputs) 0;
+      width = length inputs;
+    }
 
 -- the nodes of these vertices, where `earlier` stand before them
 abbrev pub nodes_after : List Members → List Members → List Node

@@ -1,5 +1,6 @@
 -- What a job says.
-use Rattle.std.specs.Prelude.{ℕ, List, Option, Some, None, option_map, option_and_then, slice_get, IsSome}
+use Rattle.std.specs.Prelude.{ℕ, List, map, Option, Some, None, option_map, option_and_then, slice_get, IsSome}
+use Rattle.std.specs.List.{filter_map}
 use Rattle.ss_events.specs.declared.late.Late.{Late}
 use Rattle.ss_expr.specs.declared.stream_operator.Spec.{Spec}
 use Rattle.ss_expr.specs.declared.stream_operator.Spec.TheVariants as spec
@@ -39,6 +40,11 @@ file_of_vertex (source file late) = Some file
 file_of_vertex (inner s policy) = None
 file_of_vertex (sink file) = Some file
 
+abbrev pub sink_file_of_vertex : VertexText → Option (List ℕ)
+sink_file_of_vertex (source file late) = None
+sink_file_of_vertex (inner s policy) = None
+sink_file_of_vertex (sink file) = Some file
+
 abbrev pub late_of_vertex : VertexText → Option Late
 late_of_vertex (source file late) = Some late
 late_of_vertex (inner s policy) = None
@@ -53,6 +59,13 @@ abbrev pub policy_of_vertex : VertexText → Option Policy
 policy_of_vertex (source file late) = None
 policy_of_vertex (inner s policy) = Some policy
 policy_of_vertex (sink file) = None
+
+-- the names of the vertices, and the files of the sinks
+abbrev pub vertex_names : JobText → List (List ℕ)
+vertex_names job = map (λ role. role.name) job.roles
+
+abbrev pub files_of_sinks : JobText → List (List ℕ)
+files_of_sinks job = filter_map sink_file_of_vertex job.vertices
 
 -- what vertex number v is and has, where there is such a vertex and it has such a thing
 abbrev pub op_of : JobText → ℕ → Option Op
@@ -72,7 +85,7 @@ policy_of job v = option_and_then policy_of_vertex (slice_get job.vertices v)
 
 -- what a vertex with an op has: a source a file and what becomes of rows that come late, a sink a file, and each other
 -- what it computes and how it is kept safe
-abbrev pub Has : Op → JobText → ℕ → Type 0
-Has op.Source job v = IsSome (file_of job v) × IsSome (late_of job v)
-Has op.Sink job v = IsSome (file_of job v)
-Has _ job v = IsSome (spec_of job v) × IsSome (policy_of job v)
+abbrev pub HasPartsOf : Op → JobText → ℕ → Type 0
+HasPartsOf op.Source job v = IsSome (file_of job v) × IsSome (late_of job v)
+HasPartsOf op.Sink job v = IsSome (file_of job v)
+HasPartsOf _ job v = IsSome (spec_of job v) × IsSome (policy_of job v)

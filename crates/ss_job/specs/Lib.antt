@@ -8,7 +8,7 @@ pub mod Indexed
 pub mod JobIn
 pub mod JobText
 pub mod Lookup
-pub mod Names
+pub mod LegalNames
 pub mod Owned
 pub mod OwnedDraft
 pub mod OwnedEntry

@@ -1,7 +1,9 @@
 -- What a table says in its fields, where nothing is wrong with them. A field that may be left out has a default.
-use Rattle.std.specs.Prelude.{ℕ, ℤ, pos, negsuc, Bool, true, false, List, [], ◌∷◌, Option, Some, None, option_and_then, unwrap_or, Result, Ok, Err, bytes_eq, codes, if◌then◌else◌}
+use Rattle.std.specs.Prelude.{ℕ, ℤ, pos, negsuc, Bool, true, false, List, [], ◌∷◌, Option, Some, None}
+use Rattle.std.specs.Prelude.{option_and_then, unwrap_or, Result, Ok, Err, bytes_eq, codes, if◌then◌else◌}
 use Rattle.std.specs.Option.{option_map_or}
-use Rattle.toml.specs.Data.{Items, no_items, item, Members, no_members, get_member, as_str, as_integer, as_array, as_table}
+use Rattle.toml.specs.Data.{Items, no_items, item, Members, no_members, get_member, as_str, as_integer, as_array}
+use Rattle.toml.specs.Data.{as_table}
 use Rattle.ss_events.specs.declared.late.Late.{Late}
 use Rattle.ss_events.specs.declared.late.Late.TheVariants as late
 use Rattle.ss_expr.specs.Reading.{expression_of}
@@ -23,7 +25,11 @@ meaning_in [] word = None
 meaning_in (entry ∷ entries) word = if bytes_eq word entry.0 then Some entry.1 else meaning_in entries word
 
 abbrev pub op_named : List ℕ → Option Op
-op_named = meaning_in ((codes "source", op.Source) ∷ (codes "select", op.Select) ∷ (codes "union", op.Union) ∷ (codes "window", op.Window) ∷ (codes "join", op.Join) ∷ (codes "sink", op.Sink) ∷ [])
+op_named =
+    meaning_in (
+    (codes "source", op.Source) ∷ (codes "select", op.Select) ∷ (codes "union", op.Union)
+    ∷ (codes "window", op.Window) ∷ (codes "join", op.Join) ∷ (codes "sink", op.Sink) ∷ []
+    )
 
 abbrev pub late_named : List ℕ → Option Late
 late_named = meaning_in ((codes "refuse", late.Refuse) ∷ (codes "drop", late.Drop) ∷ [])
@@ -48,7 +54,8 @@ magnitude (pos n) = n
 magnitude (negsuc n) = 0
 
 abbrev pub number_in : FieldName → ℕ → Members → ℕ
-number_in name default table = option_map_or magnitude (option_and_then as_integer (get_member (key_of name) table)) default
+number_in name default table =
+    option_map_or magnitude (option_and_then as_integer (get_member (key_of name) table)) default
 
 -- the texts of an array
 abbrev pub texts_of : Items → List (List ℕ)
@@ -72,9 +79,9 @@ abbrev pub tree_or : Tree → Result Tree ExprFault → Tree
 tree_or default (Ok e) = e
 tree_or default (Err fault) = default
 
-abbrev pub tree_of : List ℕ → Tree
-tree_of text = tree_or (leaf 0 atom.A) (expression_of text)
+abbrev pub tree_of_text : List ℕ → Tree
+tree_of_text text = tree_or (leaf 0 atom.A) (expression_of text)
 
 -- the expression of a field; the field has the text `default` where it is left out
 abbrev pub tree_in : FieldName → List ℕ → Members → Tree
-tree_in name default table = tree_of (unwrap_or (text_in name table) default)
+tree_in name default table = tree_of_text (unwrap_or (text_in name table) default)

@@ -5,4 +5,10 @@ use Rattle.ss_job.specs.Vertices.{DraftText}
 use Rattle.ss_job.specs.declared.draft.Draft.TheInside.{Inside}
 
 abbrev pub draft_text : Inside → DraftText
-draft_text draft = record { names = draft.names; roles = draft.roles.items; nodes = draft.nodes.items; vertices = map vertex_text draft.vertices.items }
+draft_text draft =
+    record {
+      names = draft.names;
+      roles = draft.roles.items;
+      nodes = draft.nodes.items;
+      vertices = map vertex_text draft.vertices.items;
+    }

@@ -1,10 +1,11 @@
 -- A plain reader of a document: it looks at one thing after the other and stops at the first that is wrong.
-use Rattle.std.specs.Prelude.{ℕ, ◌+◌, ◌&&◌, not, List, [], ◌∷◌, Option, Some, None, option_and_then, nat_lt, Result, Ok, Err, if◌then◌else◌, ⊤}
+use Rattle.std.specs.Prelude.{ℕ, ◌+◌, ◌&&◌, not, List, [], ◌∷◌, Option, Some, None, option_and_then, nat_lt, Result}
+use Rattle.std.specs.Prelude.{Ok, Err, if◌then◌else◌, ⊤}
 use Rattle.std.specs.List.{list_any}
 use Rattle.toml.specs.Data.{Data, Items, no_items, item, Members, as_array, as_table, get_member}
 use Rattle.ss_fail.specs.declared.role.Role.{Role}
 use Rattle.ss_job.specs.Document.{has_only}
-use Rattle.ss_job.specs.Faults.{whole, at, are_tables, item_count}
+use Rattle.ss_job.specs.Faults.{fault_of_document, fault_of_vertex, are_tables, item_count}
 use Rattle.ss_job.specs.Fields.{◌>>=◌, ◌>>◌, refuse, required, needed, optional, optional_number}
 use Rattle.ss_job.specs.Format.{key_of, document_keys, keys_of, limit_fields, most_vertices}
 use Rattle.ss_job.specs.JobText.{VertexText, JobText}
@@ -61,8 +62,8 @@ items_of document = do
 -- an item of the array: vertex number v
 unfoldable pub draft_at : ℕ → DraftText → Data → Result DraftText JobFault
 draft_at v draft value = do
-  table ← faulty whole (required (as_table value) (WrongKind Vertex))
-  faulty (at v) (draft_after draft table)
+  table ← faulty fault_of_document (required (as_table value) (WrongKind Vertex))
+  faulty (fault_of_vertex v) (draft_after draft table)
 
 -- the items one by one, the first of them vertex number v
 unfoldable pub drafts_after : ℕ → DraftText → Items → Result DraftText JobFault
@@ -77,12 +78,12 @@ drafts_after v draft (item value rest) = do
 unfoldable pub read_streams : List Node → ℕ → List Node → Result ⊤ JobFault
 read_streams nodes v [] = Ok tt
 read_streams nodes v (node ∷ rest) = do
-  refuse (is_stream nodes v && not (is_read nodes v)) (at v Unread)
+  refuse (is_stream nodes v && not (is_read nodes v)) (fault_of_vertex v Unread)
   read_streams nodes (v + 1) rest
 
 unfoldable pub sound_graph : DraftText → Result ⊤ JobFault
 sound_graph draft = do
-  refuse (not (list_any (λ role. is_sink role.kind) draft.roles)) (whole NoSink)
+  refuse (not (list_any (λ role. is_sink role.kind) draft.roles)) (fault_of_document NoSink)
   read_streams draft.nodes 0 draft.nodes
 
 -- ---- the document
@@ -111,7 +112,7 @@ parts_of document = do
 
 unfoldable pub read_document : Members → Result JobText JobFault
 read_document document = do
-  parts ← faulty whole (parts_of document)
+  parts ← faulty fault_of_document (parts_of document)
   draft ← drafts_after 0 empty_draft parts.1
   sound_graph draft
   Ok (job_with draft parts.0)

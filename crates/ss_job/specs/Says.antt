@@ -2,7 +2,7 @@
 use Rattle.std.specs.Prelude.{◌≡◌, ◌⊎◌, ℕ, List, Some, Ok, Err, IsUtf8}
 use Rattle.toml.specs.Data.{Members}
 use Rattle.toml.specs.Parse.{parse_document}
-use Rattle.ss_job.specs.Faults.{job_of, whole}
+use Rattle.ss_job.specs.Faults.{job_of, fault_of_document}
 use Rattle.ss_job.specs.JobText.{JobText}
 use Rattle.ss_job.specs.declared.fault.JobFault.{JobFault}
 use Rattle.ss_job.specs.declared.fault.JobWhy.TheVariants.{NotToml}
@@ -20,7 +20,7 @@ Says bytes job = (document : Members) × IsDocument bytes document × (job_of do
 -- the bytes are no document, or one with this first fault
 abbrev pub HasFault : List ℕ → JobFault → Type 0
 HasFault bytes fault =
-    ((fault ≡ whole NotToml) × ((document : Members) → ¬ (IsDocument bytes document)))
+    ((fault ≡ fault_of_document NotToml) × ((document : Members) → ¬ (IsDocument bytes document)))
     ⊎ ((document : Members) × IsDocument bytes document × (job_of document ≡ Err fault))
 
 -- an answer that the bytes give a cause for; want of memory needs none

@@ -1,5 +1,6 @@
 -- A plain reader of the vertices: one after the other, each by those before it.
-use Rattle.std.specs.Prelude.{ℕ, ◌-◌, ◌^◌, Bool, false, not, List, [], ◌∷◌, ◌++◌, length, replicate, Result, Ok, Err, bytes_eq, codes, if◌then◌else◌}
+use Rattle.std.specs.Prelude.{ℕ, ◌-◌, ◌^◌, Bool, false, not, List, [], ◌∷◌, ◌++◌, length, replicate, Result, Ok, Err}
+use Rattle.std.specs.Prelude.{bytes_eq, codes, if◌then◌else◌}
 use Rattle.std.specs.List.{list_any, position}
 use Rattle.toml.specs.Data.{Data, Items, no_items, item, Members, as_str}
 use Rattle.ss_expr.specs.declared.stream_operator.Spec.{Spec}
@@ -7,16 +8,21 @@ use Rattle.ss_expr.specs.declared.stream_operator.Spec.TheVariants as spec
 use Rattle.ss_fail.specs.declared.role.Role.{Role}
 use Rattle.ss_job.specs.Document.{has_only}
 use Rattle.ss_job.specs.Faults.{item_count}
-use Rattle.ss_job.specs.Fields.{◌>>=◌, ◌>>◌, refuse, required, needed_text, needed_texts, needed_number, optional_number, size_of, late_of, value_of, replay_of, agg_of, test_of, row_number_of}
+use Rattle.ss_job.specs.Fields.{◌>>=◌, ◌>>◌, refuse, required, needed_text, needed_texts, needed_number}
+use Rattle.ss_job.specs.Fields.{optional_number, size_of, late_of, value_of, replay_of, agg_of, test_of}
+use Rattle.ss_job.specs.Fields.{row_number_of}
 use Rattle.ss_job.specs.Format.{vertex_keys}
 use Rattle.ss_job.specs.JobIn.{kind_of}
 use Rattle.ss_job.specs.JobText.{VertexText, source, inner, sink}
 use Rattle.ss_job.specs.Lookup.{op_named}
-use Rattle.ss_job.specs.Names.{is_vertex_name, is_file_name}
+use Rattle.ss_job.specs.LegalNames.{is_vertex_name, is_file_name}
 use Rattle.ss_job.specs.Wrong.{is_among, has_input_count}
 use Rattle.ss_job.specs.declared.fault.JobWhy.{JobWhy}
-use Rattle.ss_job.specs.declared.fault.JobWhy.TheVariants.{WrongKind, UnknownField, BadName, RepeatedName, RepeatedFile, BadOp, LaterInput, SinkAsInput, WrongInputCount}
-use Rattle.ss_job.specs.declared.field_name.FieldName.TheVariants.{Name, Op as OpField, Inputs, File, A, B, Hop, Every, Replicas}
+use Rattle.ss_job.specs.declared.fault.JobWhy.TheVariants.{WrongKind, UnknownField, BadName, RepeatedName}
+use Rattle.ss_job.specs.declared.fault.JobWhy.TheVariants.{RepeatedFile, BadOp, LaterInput, SinkAsInput}
+use Rattle.ss_job.specs.declared.fault.JobWhy.TheVariants.{WrongInputCount}
+use Rattle.ss_job.specs.declared.field_name.FieldName.TheVariants.{Name, Op as OpField, Inputs, File, A, B, Hop}
+use Rattle.ss_job.specs.declared.field_name.FieldName.TheVariants.{Every, Replicas}
 use Rattle.ss_job.specs.declared.op.Op.{Op}
 use Rattle.ss_job.specs.declared.op.Op.TheVariants as op
 use Rattle.ss_job.specs.declared.policy.Policy.{Policy}

@@ -1,5 +1,7 @@
 -- What can be wrong with the value of a field.
-use Rattle.std.specs.Prelude.{ℕ, ◌*◌, ◌%◌, ◌^◌, ◌==◌, ℤ, pos, negsuc, Bool, false, not, ◌&&◌, List, [], ◌∷◌, ◌++◌, length, map, flat_map, filter, nat_le, is_none, Option, Some, None, Result, Ok, Err, bytes_eq, codes, slice_get, if◌then◌else◌}
+use Rattle.std.specs.Prelude.{ℕ, ◌*◌, ◌%◌, ◌^◌, ◌==◌, ℤ, pos, negsuc, Bool, false, not, ◌&&◌, List, [], ◌∷◌, ◌++◌}
+use Rattle.std.specs.Prelude.{length, map, flat_map, filter, nat_le, is_none, Option, Some, None, Result, Ok, Err}
+use Rattle.std.specs.Prelude.{bytes_eq, codes, slice_get, if◌then◌else◌}
 use Rattle.std.specs.List.{list_any, position}
 use Rattle.std.specs.Option.{option_map_or}
 use Rattle.toml.specs.Data.{Data, Members, get_member, integer, string, array}
@@ -12,17 +14,21 @@ use Rattle.ss_expr.specs.declared.kind.ValueKind.TheVariants.{Truth, Num}
 use Rattle.ss_job.specs.Document.{has_only}
 use Rattle.ss_job.specs.Format.{Field, key_of, has_shape, fewest_inputs, most_inputs}
 use Rattle.ss_job.specs.Lookup.{text_in, number_in, texts_of, late_named, agg_named, value_named, replay_named}
-use Rattle.ss_job.specs.Names.{is_vertex_name, is_file_name}
+use Rattle.ss_job.specs.LegalNames.{is_vertex_name, is_file_name}
 use Rattle.ss_job.specs.declared.fault.JobWhy.{JobWhy}
-use Rattle.ss_job.specs.declared.fault.JobWhy.TheVariants.{MissingField, WrongKind, UnknownField, BadName, RepeatedName, RepeatedFile, BadWord, LaterInput, SinkAsInput, WrongInputCount, BadRange, BadExpr}
+use Rattle.ss_job.specs.declared.fault.JobWhy.TheVariants.{MissingField, WrongKind, UnknownField, BadName}
+use Rattle.ss_job.specs.declared.fault.JobWhy.TheVariants.{RepeatedName, RepeatedFile, BadWord, LaterInput}
+use Rattle.ss_job.specs.declared.fault.JobWhy.TheVariants.{SinkAsInput, WrongInputCount, BadRange, BadExpr}
 use Rattle.ss_job.specs.declared.field_name.FieldName.{FieldName}
-use Rattle.ss_job.specs.declared.field_name.FieldName.TheVariants.{MaxElements, CollectEvery, Name, Op, File, Late, Where, A, B, Size, Hop, Agg, Of, Recover, Every, Replicas}
+use Rattle.ss_job.specs.declared.field_name.FieldName.TheVariants.{MaxElements, CollectEvery, Name, Op, File, Late}
+use Rattle.ss_job.specs.declared.field_name.FieldName.TheVariants.{Where, A, B, Size, Hop, Agg, Of, Recover, Every}
+use Rattle.ss_job.specs.declared.field_name.FieldName.TheVariants.{Replicas}
 use Rattle.ss_job.specs.declared.op.Op.{Op as Operator}
 use Rattle.ss_job.specs.declared.op.Op.TheVariants.{Sink}
 
 -- one thing is wrong where the test holds, else nothing
-abbrev pub when : Bool → JobWhy → List JobWhy
-when test why = if test then why ∷ [] else []
+abbrev pub fault_if : Bool → JobWhy → List JobWhy
+fault_if test why = if test then why ∷ [] else []
 
 -- one text is among others
 abbrev pub is_among : List ℕ → List (List ℕ) → Bool
@@ -37,7 +43,7 @@ abbrev pub out_of_range : FieldName → ℕ → ℕ → ℤ → JobWhy
 out_of_range name least most got = BadRange name got (pos least) (pos most)
 
 abbrev pub range_faults : FieldName → ℕ → ℕ → ℤ → List JobWhy
-range_faults name least most got = when (not (is_within least most got)) (out_of_range name least most got)
+range_faults name least most got = fault_if (not (is_within least most got)) (out_of_range name least most got)
 
 -- the number is a multiple of another that is not 0
 abbrev pub is_multiple : ℕ → ℤ → Bool
@@ -46,10 +52,11 @@ is_multiple of (negsuc n) = false
 
 -- a size is one to 64 hops, and whole hops
 abbrev pub size_faults : ℕ → ℤ → List JobWhy
-size_faults hop got = when (not (is_within hop (64 * hop) got && is_multiple hop got)) (out_of_range Size hop (64 * hop) got)
+size_faults hop got =
+    fault_if (not (is_within hop (64 * hop) got && is_multiple hop got)) (out_of_range Size hop (64 * hop) got)
 
 abbrev pub word_faults : {A : Type 0} → (List ℕ → Option A) → FieldName → List ℕ → List JobWhy
-word_faults named name word = when (is_none (named word)) (BadWord name)
+word_faults named name word = fault_if (is_none (named word)) (BadWord name)
 
 -- an expression that doesn't parse, or isn't of the kind that is wanted
 abbrev pub kind_faults : FieldName → Option ℕ → List JobWhy
@@ -83,13 +90,14 @@ number_of earlier name = position (λ other. bytes_eq name other) (names_in earl
 
 abbrev pub name_faults : List Members → List ℕ → List JobWhy
 name_faults earlier name =
-    when (not (is_vertex_name name)) BadName ++ when (is_among name (names_in earlier)) RepeatedName
+    fault_if (not (is_vertex_name name)) BadName ++ fault_if (is_among name (names_in earlier)) RepeatedName
 
 abbrev pub source_file_faults : List ℕ → List JobWhy
-source_file_faults file = when (not (is_file_name file)) BadName ++ when (bytes_eq file (codes "-")) BadName
+source_file_faults file = fault_if (not (is_file_name file)) BadName ++ fault_if (bytes_eq file (codes "-")) BadName
 
 abbrev pub sink_file_faults : List Members → List ℕ → List JobWhy
-sink_file_faults earlier file = when (not (is_file_name file)) BadName ++ when (is_among file (sink_files earlier)) RepeatedFile
+sink_file_faults earlier file =
+    fault_if (not (is_file_name file)) BadName ++ fault_if (is_among file (sink_files earlier)) RepeatedFile
 
 abbrev pub file_faults : Operator → List Members → List ℕ → List JobWhy
 file_faults Sink earlier file = sink_file_faults earlier file
@@ -102,14 +110,15 @@ abbrev pub is_sink_at : List Members → ℕ → Bool
 is_sink_at earlier v = option_map_or is_sink (slice_get earlier v) false
 
 abbrev pub input_faults : List Members → List ℕ → List JobWhy
-input_faults earlier name = option_map_or (λ v. when (is_sink_at earlier v) SinkAsInput) (number_of earlier name) (LaterInput ∷ [])
+input_faults earlier name =
+    option_map_or (λ v. fault_if (is_sink_at earlier v) SinkAsInput) (number_of earlier name) (LaterInput ∷ [])
 
 abbrev pub has_input_count : Operator → ℕ → Bool
 has_input_count op count = nat_le (fewest_inputs op) count && nat_le count (most_inputs op)
 
 abbrev pub inputs_faults : Operator → List Members → List (List ℕ) → List JobWhy
 inputs_faults op earlier names =
-    when (not (has_input_count op (length names))) WrongInputCount ++ flat_map (input_faults earlier) names
+    fault_if (not (has_input_count op (length names))) WrongInputCount ++ flat_map (input_faults earlier) names
 
 -- ---- a value of the right kind, by its field
 
@@ -146,11 +155,11 @@ value_faults field op earlier table _ = []
 
 -- a field that is missing, that holds another kind of value, or whose value is at fault as `wrong` says
 abbrev pub said_faults : (Data → List JobWhy) → Field → Option Data → List JobWhy
-said_faults wrong field None = when field.required (MissingField field.name)
+said_faults wrong field None = fault_if field.required (MissingField field.name)
 said_faults wrong field (Some value) = if has_shape field.shape value then wrong value else WrongKind field.name ∷ []
 
 abbrev pub field_faults : (Data → List JobWhy) → Members → Field → List JobWhy
 field_faults wrong table field = said_faults wrong field (get_member (key_of field.name) table)
 
 abbrev pub unknown_faults : List (List ℕ) → Members → List JobWhy
-unknown_faults keys table = when (not (has_only keys table)) UnknownField
+unknown_faults keys table = fault_if (not (has_only keys table)) UnknownField

@@ -3,7 +3,7 @@ ghost use Rattle.std.specs.Prelude.{◌≡◌, map, is_some, option_map, bytes_e
 ghost use Rattle.std.specs.List.{list_any};
 ghost use Rattle.toml.specs.Data.{as_str, get_member};
 ghost use Rattle.toml.specs.View.{view, table_view, array_view};
-ghost use Rattle.ss_job.specs.Answers.{seen};
+ghost use Rattle.ss_job.specs.Answers.{result_map};
 ghost use Rattle.ss_job.specs.Document.{has_only};
 ghost use Rattle.ss_job.specs.Fields.{needed_text, optional_text, needed_integer, optional_integer, needed_texts};
 ghost use Rattle.ss_job.specs.Format.{key_of, are_texts};
@@ -23,7 +23,7 @@ pub(crate) fn value_at(table: &Table, field: FieldName) -> Option<&Value>
 /// The text of a field that has to be there.
 #[tactic(auto, unfolding(crate::specs::Fields::needed_text))]
 pub(crate) fn needed_text(table: &Table, field: FieldName) -> Result<&str, JobWhy>
-    ensures { seen (λ text. text.now) result ≡ needed_text field (table_view table.now) }
+    ensures { result_map (λ text. text.now) result ≡ needed_text field (table_view table.now) }
 {
     match value_at(table, field) {
         Some(value) => value.as_str().ok_or(JobWhy::WrongKind { field }),
@@ -34,7 +34,7 @@ pub(crate) fn needed_text(table: &Table, field: FieldName) -> Result<&str, JobWh
 /// The text of a field that may be there.
 #[tactic(auto, unfolding(crate::specs::Fields::optional_text))]
 pub(crate) fn optional_text(table: &Table, field: FieldName) -> Result<Option<&str>, JobWhy>
-    ensures { seen (option_map (λ text. text.now)) result ≡ optional_text field (table_view table.now) }
+    ensures { result_map (option_map (λ text. text.now)) result ≡ optional_text field (table_view table.now) }
 {
     match value_at(table, field) {
         Some(value) => match value.as_str() {
@@ -73,7 +73,7 @@ pub(crate) fn optional_integer(table: &Table, field: FieldName) -> Result<Option
 /// The array of texts of a field that has to be there.
 #[tactic(auto, unfolding(crate::specs::Fields::needed_texts))]
 pub(crate) fn needed_texts(table: &Table, field: FieldName) -> Result<&Array, JobWhy>
-    ensures { seen (λ array. array_view array.now) result ≡ needed_texts field (table_view table.now) }
+    ensures { result_map (λ array. array_view array.now) result ≡ needed_texts field (table_view table.now) }
 {
     match value_at(table, field) {
         Some(value) => match value.as_array() {

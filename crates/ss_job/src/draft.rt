@@ -2,8 +2,8 @@
 ghost use Rattle.std.specs.Prelude.{◌≡◌, ◌<◌, ◌≤◌, ◌&&◌, not, length, true, false, IfOk, OnOk};
 ghost use Rattle.std.specs.List.{list_any};
 ghost use Rattle.toml.specs.View.{table_view};
-ghost use Rattle.ss_job.specs.Answers.{seen};
-ghost use Rattle.ss_job.specs.Names.{is_vertex_name};
+ghost use Rattle.ss_job.specs.Answers.{result_map};
+ghost use Rattle.ss_job.specs.LegalNames.{is_vertex_name};
 ghost use Rattle.ss_job.specs.Reading.{job_with, read_streams, sound_graph};
 ghost use Rattle.ss_job.specs.Sound.{IsJob};
 ghost use Rattle.ss_job.specs.Vertices.{empty_draft, name_of, input_of, writes_to, with_vertex};
@@ -15,9 +15,9 @@ use crate::entry::Entry;
 use crate::fault::{JobFault, JobWhy};
 use crate::field_name::FieldName;
 use crate::job::Job;
+use crate::legal_names::is_vertex_name;
 use crate::limits::Limits;
 use crate::name_index::NameIndex;
-use crate::names::is_vertex_name;
 use crate::op::Op;
 use crate::vertex::Vertex;
 use ss_fail::{Name, Role};
@@ -71,7 +71,7 @@ impl Draft {
     /// The name that a table gives to the next vertex.
     #[tactic(auto, unfolding(crate::specs::Vertices::name_of))]
     pub(crate) fn name_of<'a>(&self, table: &'a Table) -> Result<&'a str, JobWhy>
-        ensures read { seen (λ name. name.now) result ≡ name_of self.now.names (table_view table.now) }
+        ensures read { result_map (λ name. name.now) result ≡ name_of self.now.names (table_view table.now) }
         ensures name { IfOk result (λ name. is_vertex_name name.now ≡ true) }
         ensures new { IfOk result (λ name. is_among name.now self.now.names ≡ false) }
     {
@@ -137,7 +137,7 @@ impl Draft {
         ensures { result ≡ sound_graph self.now }
     {
         if !has_sink(&self.roles) {
-            return Err(JobFault::whole(JobWhy::NoSink));
+            return Err(JobFault::of_document(JobWhy::NoSink));
         }
         read_streams(&self.nodes)
     }
@@ -171,7 +171,7 @@ fn read_streams(nodes: &[Node]) -> Result<(), JobFault>
 {
     for v in 0..nodes.len() {
         if is_unread(nodes, v) {
-            return Err(JobFault::at(v as u32, JobWhy::Unread));
+            return Err(JobFault::of_vertex(v as u32, JobWhy::Unread));
         }
     }
     Ok(())

@@ -46,18 +46,18 @@ pub struct JobFault {
 
 impl JobFault {
     ghost use Rattle.std.specs.Prelude.{◌≡◌};
-    ghost use Rattle.ss_job.specs.Faults.{whole, at};
+    ghost use Rattle.ss_job.specs.Faults.{fault_of_document, fault_of_vertex};
 
     /// A fault of no single vertex.
-    pub(crate) fn whole(why: JobWhy) -> JobFault
-        ensures { result ≡ whole why }
+    pub(crate) fn of_document(why: JobWhy) -> JobFault
+        ensures { result ≡ fault_of_document why }
     {
         JobFault { vertex: None, why }
     }
 
     /// A fault of the vertex of this number.
-    pub(crate) fn at(v: u32, why: JobWhy) -> JobFault
-        ensures { result ≡ at v why }
+    pub(crate) fn of_vertex(v: u32, why: JobWhy) -> JobFault
+        ensures { result ≡ fault_of_vertex v why }
     {
         JobFault {
             vertex: Some(v),

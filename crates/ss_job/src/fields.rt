@@ -1,8 +1,9 @@
 //! What the fields of a table say: numbers in their ranges, words with a meaning, and expressions of a kind.
 ghost use Rattle.std.specs.Prelude.{◌≡◌, ◌^◌, ◌<◌, ◌≤◌, IfOk, option_map};
 ghost use Rattle.toml.specs.View.{table_view};
-ghost use Rattle.ss_job.specs.Answers.{seen, Gives};
-ghost use Rattle.ss_job.specs.Fields.{in_range, needed_number, optional_number, whole_hops, size_of, late_of, value_of, replay_of, agg_of, expression_with, test_of, row_number_of};
+ghost use Rattle.ss_job.specs.Answers.{result_map, AnswersReading};
+ghost use Rattle.ss_job.specs.Fields.{in_range, needed_number, optional_number, whole_hops, size_of, late_of};
+ghost use Rattle.ss_job.specs.Fields.{value_of, replay_of, agg_of, expression_with, test_of, row_number_of};
 ghost use Rattle.ss_job.specs.Lookup.{late_named, agg_named, value_named, replay_named};
 ghost use Rattle.ss_job.specs.declared.fault.JobWhy.TheVariants.{BadExpr};
 ghost use Rattle.ss_job.specs.declared.fault.Refusal.TheVariants.{Why};
@@ -192,7 +193,7 @@ fn replay_named(word: &str) -> Option<bool>
 /// The test of a select, where it has one.
 #[tactic(auto, unfolding(crate::specs::Fields::test_of))]
 pub(crate) fn test_of(alloc: Global, table: &Table) -> Result<Option<Expr>, Refusal>
-    ensures { Gives (λ test. test) result (test_of (table_view table.now)) }
+    ensures { AnswersReading (λ test. test) result (test_of (table_view table.now)) }
 {
     match optional_text(table, FieldName::Where)? {
         Some(text) => {
@@ -211,7 +212,7 @@ pub(crate) fn row_number_of(
     field: FieldName,
     default: &str,
 ) -> Result<Expr, Refusal>
-    ensures { Gives (λ e. e) result (row_number_of field default.now (table_view table.now)) }
+    ensures { AnswersReading (λ e. e) result (row_number_of field default.now (table_view table.now)) }
 {
     let text = optional_text(table, field)?.unwrap_or(default);
     expression_with(alloc, field, ValueKind::Num, text)
@@ -225,7 +226,7 @@ fn expression_with(
     kind: ValueKind,
     text: &str,
 ) -> Result<Expr, Refusal>
-    ensures { Gives (λ e. e) result (expression_with field kind text.now) }
+    ensures { AnswersReading (λ e. e) result (expression_with field kind text.now) }
 {
     match ss_expr::parse(alloc, text) {
         Ok(e) => match check_kind(&e, kind) {

@@ -40,7 +40,7 @@ impl Model for Job {
 }
 
 impl Job {
-    ghost use Rattle.ss_job.specs.JobText.{Has, op_of, file_of, late_of, spec_of, policy_of};
+    ghost use Rattle.ss_job.specs.JobText.{HasPartsOf, op_of, file_of, late_of, spec_of, policy_of};
     ghost use Rattle.ss_job.specs.Owned.{vertex_text};
     ghost use Rattle.ss_job.specs.Reading.{job_of_parts};
     ghost use Rattle.ss_job.specs.Sound.{IsJob};
@@ -59,7 +59,9 @@ impl Job {
         }
     }
 
-    /// Which vertex reads which.
+    /// Which vertex reads which. This is the one reader that says what every job keeps: that its lists are of one
+    /// length, that its vertices are such as the format allows, that their names differ, and so on. Who needs that
+    /// calls it, and it costs nothing.
     pub fn graph(&self) -> &Graph
         ensures graph { result.now ≡ self.now.graph }
         ensures sound { IsJob self.now }
@@ -69,8 +71,7 @@ impl Job {
 
     /// The vertices' names, kinds and replicas, in the order of their numbers.
     pub fn roles(&self) -> &[Role]
-        ensures roles { result.now ≡ self.now.roles }
-        ensures sound { IsJob self.now }
+        ensures { result.now ≡ self.now.roles }
     {
         self.roles.as_slice()
     }
@@ -79,8 +80,7 @@ impl Job {
     pub fn op(&self, v: u32) -> Op
         requires { v < length self.now.vertices }
         ensures op { op_of self.now v ≡ Some result }
-        ensures has { Has result self.now v }
-        ensures sound { IsJob self.now }
+        ensures has { HasPartsOf result self.now v }
     {
         match &self.vertices[v as usize] {
             Vertex::Source { .. } => Op::Source,
@@ -97,8 +97,7 @@ impl Job {
     /// What a vertex computes; `None` of a source and of a sink.
     pub fn spec(&self, v: u32) -> Option<&Spec>
         requires { v < length self.now.vertices }
-        ensures spec { option_map (λ spec. spec.now) result ≡ spec_of self.now v }
-        ensures sound { IsJob self.now }
+        ensures { option_map (λ spec. spec.now) result ≡ spec_of self.now v }
     {
         match &self.vertices[v as usize] {
             Vertex::Source { .. } | Vertex::Sink { .. } => None,
@@ -109,8 +108,7 @@ impl Job {
     /// How an operator, a vertex that is neither source nor sink, is kept safe.
     pub fn policy(&self, v: u32) -> Policy
         requires { IsSome (policy_of self.now v) }
-        ensures policy { policy_of self.now v ≡ Some result }
-        ensures sound { IsJob self.now }
+        ensures { policy_of self.now v ≡ Some result }
     {
         match &self.vertices[v as usize] {
             Vertex::Source { .. } | Vertex::Sink { .. } => unreachable!(),
@@ -143,16 +141,14 @@ impl Job {
 
     /// The most elements that a stream may have, 1 to 131,072.
     pub fn max_elements(&self) -> u64
-        ensures limit { result ≡ self.now.max_elements }
-        ensures sound { IsJob self.now }
+        ensures { result ≡ self.now.max_elements }
     {
         self.max_elements
     }
 
     /// How many elements may be stored between two passes of collection, 64 to 131,072.
     pub fn collect_every(&self) -> u64
-        ensures limit { result ≡ self.now.collect_every }
-        ensures sound { IsJob self.now }
+        ensures { result ≡ self.now.collect_every }
     {
         self.collect_every
     }

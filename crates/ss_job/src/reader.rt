@@ -2,9 +2,9 @@
 ghost use Rattle.std.specs.Prelude.{◌≡◌, ◌+◌, ◌<◌, ◌≤◌, Ok, IfOk, IfErr, OnOk, List, ℕ, length, is_some, nat_lt};
 ghost use Rattle.toml.specs.Data.{as_table};
 ghost use Rattle.toml.specs.View.{view, table_view, array_view};
-ghost use Rattle.ss_job.specs.Answers.{seen, FailsAt, GivesAt};
+ghost use Rattle.ss_job.specs.Answers.{result_map, IsFaultOfDocument, AnswersDocument};
 ghost use Rattle.ss_job.specs.Fault.{IsToldBy};
-ghost use Rattle.ss_job.specs.Faults.{are_tables, item_count, whole};
+ghost use Rattle.ss_job.specs.Faults.{are_tables, item_count, fault_of_document};
 ghost use Rattle.ss_job.specs.Format.{most_vertices};
 ghost use Rattle.ss_job.specs.JobText.{JobText};
 ghost use Rattle.ss_job.specs.Reading.{faulty, items_of, parts_of, draft_at, drafts_after, read_document};
@@ -43,10 +43,12 @@ pub fn read_job(alloc: Global, bytes: &[u8]) -> Result<Job, JobsFault>
 
 /// What bytes say is one thing: those that say a job say no other and have no fault, and no bytes
 /// have two faults.
-pub fn one_reading()
+pub fn job_file_has_one_reading()
     ensures one_job { (bytes : List ℕ) (job other : JobText) → Says bytes job → Says bytes other → job ≡ other }
-    ensures no_fault { (bytes : List ℕ) (job : JobText) (fault : FaultAt) → Says bytes job → ¬ (Refuses bytes (At fault)) }
-    ensures one_fault { (bytes : List ℕ) (fault other : FaultAt) → Refuses bytes (At fault) → Refuses bytes (At other) → fault ≡ other }
+    ensures no_fault { (bytes : List ℕ) (job : JobText) (fault : FaultAt)
+        → Says bytes job → ¬ (Refuses bytes (At fault)) }
+    ensures one_fault { (bytes : List ℕ) (fault other : FaultAt)
+        → Refuses bytes (At fault) → Refuses bytes (At other) → fault ≡ other }
 {}
 
 /// The fault of bytes that `toml` reads no document from.
@@ -56,14 +58,14 @@ fn fault_of(error: &toml::de::Error) -> JobsFault
     if error.is_memory() {
         JobsFault::Memory
     } else {
-        JobsFault::At(JobFault::whole(JobWhy::NotToml))
+        JobsFault::At(JobFault::of_document(JobWhy::NotToml))
     }
 }
 
 /// The job that a document says.
 #[tactic(auto, unfolding(crate::specs::Reading::read_document))]
 fn read_document(alloc: Global, document: &Table) -> Result<Job, JobsFault>
-    ensures { GivesAt (λ job. job) result (read_document (table_view document.now)) }
+    ensures { AnswersDocument (λ job. job) result (read_document (table_view document.now)) }
 {
     let (limits, array) = located_parts(document)?;
     let draft = drafts_of(alloc, array)?;
@@ -74,19 +76,20 @@ fn read_document(alloc: Global, document: &Table) -> Result<Job, JobsFault>
 
 /// The limits and the array of the vertices, or a fault of no single vertex.
 fn located_parts(document: &Table) -> Result<(Limits, &Array), JobFault>
-    ensures read { seen (λ parts. (parts.0, array_view parts.1.now)) result ≡ faulty whole (parts_of (table_view document.now)) }
+    ensures read { result_map (λ parts. (parts.0, array_view parts.1.now)) result
+        ≡ faulty fault_of_document (parts_of (table_view document.now)) }
     ensures few { IfOk result (λ parts. item_count (array_view parts.1.now) ≤ 32) }
 {
     match parts_of(document) {
         Ok(parts) => Ok(parts),
-        Err(why) => Err(JobFault::whole(why)),
+        Err(why) => Err(JobFault::of_document(why)),
     }
 }
 
 /// The limits and the array of the vertices.
 #[tactic(auto, unfolding(crate::specs::Reading::parts_of))]
 fn parts_of(document: &Table) -> Result<(Limits, &Array), JobWhy>
-    ensures read { seen (λ parts. (parts.0, array_view parts.1.now)) result ≡ parts_of (table_view document.now) }
+    ensures read { result_map (λ parts. (parts.0, array_view parts.1.now)) result ≡ parts_of (table_view document.now) }
     ensures few { IfOk result (λ parts. item_count (array_view parts.1.now) ≤ 32) }
 {
     if !has_only(document, &["job", "vertex"]) {
@@ -100,7 +103,7 @@ fn parts_of(document: &Table) -> Result<(Limits, &Array), JobWhy>
 /// The array of the vertices.
 #[tactic(auto, unfolding(crate::specs::Reading::items_of))]
 fn items_of(document: &Table) -> Result<&Array, JobWhy>
-    ensures read { seen (λ array. array_view array.now) result ≡ items_of (table_view document.now) }
+    ensures read { result_map (λ array. array_view array.now) result ≡ items_of (table_view document.now) }
     ensures few { IfOk result (λ array. item_count (array_view array.now) ≤ 32) }
 {
     let field = FieldName::Vertex;
@@ -139,7 +142,7 @@ fn is_too_long(array: &Array) -> bool
 /// The vertices of the tables of an array.
 fn drafts_of(alloc: Global, array: &Array) -> Result<Draft, JobsFault>
     requires { item_count (array_view array.now) ≤ 32 }
-    ensures { GivesAt (λ draft. draft) result (drafts_after 0 empty_draft (array_view array.now)) }
+    ensures { AnswersDocument (λ draft. draft) result (drafts_after 0 empty_draft (array_view array.now)) }
 {
     let mut draft = Draft::new(alloc);
     for (v, value) in array.iter().enumerate() {
@@ -156,16 +159,16 @@ fn drafts_of(alloc: Global, array: &Array) -> Result<Draft, JobsFault>
 fn draft_at(alloc: Global, v: u32, draft: &mut Draft, value: &Value) -> Result<(), JobsFault>
     requires { length draft.old.nodes < 32 }
     ensures added { OnOk result (draft_at v draft.old (view value.now) ≡ Ok draft.new) }
-    ensures refused { IfErr result (λ e. FailsAt e (draft_at v draft.old (view value.now))) }
+    ensures refused { IfErr result (λ e. IsFaultOfDocument e (draft_at v draft.old (view value.now))) }
     ensures count { OnOk result (length draft.new.nodes ≡ length draft.old.nodes + 1) }
 {
     match value.as_table() {
         Some(table) => match add_vertex(alloc, draft, table) {
             Ok(()) => Ok(()),
-            Err(Refusal::Why(why)) => Err(JobsFault::At(JobFault::at(v, why))),
+            Err(Refusal::Why(why)) => Err(JobsFault::At(JobFault::of_vertex(v, why))),
             Err(Refusal::Memory) => Err(JobsFault::Memory),
         },
-        None => Err(JobsFault::At(JobFault::whole(JobWhy::WrongKind {
+        None => Err(JobsFault::At(JobFault::of_document(JobWhy::WrongKind {
             field: FieldName::Vertex,
         }))),
     }

@@ -1,11 +1,13 @@
 //! What the table of a vertex says, op by op.
 ghost use Rattle.std.specs.Prelude.{◌≡◌, ◌+◌, ◌<◌, ◌≤◌, true, Ok, IfErr, OnOk, length};
 ghost use Rattle.toml.specs.View.{view, table_view, array_view};
-ghost use Rattle.ss_job.specs.Answers.{seen, Fails, Gives};
+ghost use Rattle.ss_job.specs.Answers.{result_map, IsFaultOfReading, AnswersReading};
 ghost use Rattle.ss_job.specs.Faults.{item_count};
 ghost use Rattle.ss_job.specs.Fields.{optional_number};
 ghost use Rattle.ss_job.specs.OwnedEntry.{entry_text};
-ghost use Rattle.ss_job.specs.Vertices.{op_of, input_at, numbers_of, inputs_of, source_file_of, sink_file_of, policy_of, select_of, window_of, operator_of, source_of, select_entry, window_entry, plain_entry, sink_of, entry_of, draft_after};
+ghost use Rattle.ss_job.specs.Vertices.{op_of, input_at, numbers_of, inputs_of, source_file_of, sink_file_of};
+ghost use Rattle.ss_job.specs.Vertices.{policy_of, select_of, window_of, operator_of, source_of, select_entry};
+ghost use Rattle.ss_job.specs.Vertices.{window_entry, plain_entry, sink_of, entry_of, draft_after};
 ghost use Rattle.ss_job.specs.Wrong.{has_input_count};
 ghost use Rattle.ss_job.specs.declared.field_name.FieldName.TheVariants.{Replicas};
 
@@ -19,7 +21,7 @@ use crate::fields::{
     value_of,
 };
 use crate::inputs::Inputs;
-use crate::names::is_file_name;
+use crate::legal_names::is_file_name;
 use crate::op::Op;
 use crate::policy::Policy;
 use crate::vertex::Vertex;
@@ -42,7 +44,7 @@ const MOST_REPLICAS: u64 = 4;
 pub(crate) fn add_vertex(alloc: Global, draft: &mut Draft, table: &Table) -> Result<(), Refusal>
     requires { length draft.old.nodes < 32 }
     ensures added { OnOk result (draft_after draft.old (table_view table.now) ≡ Ok draft.new) }
-    ensures refused { IfErr result (λ e. Fails e (draft_after draft.old (table_view table.now))) }
+    ensures refused { IfErr result (λ e. IsFaultOfReading e (draft_after draft.old (table_view table.now))) }
     ensures count { OnOk result (length draft.new.nodes ≡ length draft.old.nodes + 1) }
 {
     let name = draft.name_of(table)?;
@@ -66,7 +68,7 @@ fn op_of(table: &Table) -> Result<Op, JobWhy>
 
 /// What the fields of a vertex with this op say.
 fn entry_of(alloc: Global, draft: &Draft, op: Op, table: &Table) -> Result<Entry, Refusal>
-    ensures { Gives entry_text result (entry_of draft.now op (table_view table.now)) }
+    ensures { AnswersReading entry_text result (entry_of draft.now op (table_view table.now)) }
 {
     match op {
         Op::Source => source_of(alloc, table),
@@ -80,7 +82,7 @@ fn entry_of(alloc: Global, draft: &Draft, op: Op, table: &Table) -> Result<Entry
 
 #[tactic(auto, unfolding(crate::specs::Vertices::source_of))]
 fn source_of(alloc: Global, table: &Table) -> Result<Entry, Refusal>
-    ensures { Gives entry_text result (source_of (table_view table.now)) }
+    ensures { AnswersReading entry_text result (source_of (table_view table.now)) }
 {
     let file = source_file_of(table)?;
     let late = late_of(table)?;
@@ -95,7 +97,7 @@ fn source_of(alloc: Global, table: &Table) -> Result<Entry, Refusal>
 
 #[tactic(auto, unfolding(crate::specs::Vertices::select_entry))]
 fn select_entry(alloc: Global, draft: &Draft, table: &Table) -> Result<Entry, Refusal>
-    ensures { Gives entry_text result (select_entry draft.now (table_view table.now)) }
+    ensures { AnswersReading entry_text result (select_entry draft.now (table_view table.now)) }
 {
     let inputs = inputs_of(draft, Op::Select, table)?;
     let spec = select_of(alloc, table)?;
@@ -104,7 +106,7 @@ fn select_entry(alloc: Global, draft: &Draft, table: &Table) -> Result<Entry, Re
 
 #[tactic(auto, unfolding(crate::specs::Vertices::window_entry))]
 fn window_entry(draft: &Draft, table: &Table) -> Result<Entry, Refusal>
-    ensures { Gives entry_text result (window_entry draft.now (table_view table.now)) }
+    ensures { AnswersReading entry_text result (window_entry draft.now (table_view table.now)) }
 {
     let inputs = inputs_of(draft, Op::Window, table)?;
     let spec = window_of(table)?;
@@ -114,7 +116,7 @@ fn window_entry(draft: &Draft, table: &Table) -> Result<Entry, Refusal>
 /// An operator of which the op says all that it computes.
 #[tactic(auto, unfolding(crate::specs::Vertices::plain_entry))]
 fn plain_entry(draft: &Draft, op: Op, spec: Spec, table: &Table) -> Result<Entry, Refusal>
-    ensures { Gives entry_text result (plain_entry draft.now op spec (table_view table.now)) }
+    ensures { AnswersReading entry_text result (plain_entry draft.now op spec (table_view table.now)) }
 {
     let inputs = inputs_of(draft, op, table)?;
     operator_of(inputs, spec, table)
@@ -122,7 +124,7 @@ fn plain_entry(draft: &Draft, op: Op, spec: Spec, table: &Table) -> Result<Entry
 
 #[tactic(auto, unfolding(crate::specs::Vertices::sink_of))]
 fn sink_of(alloc: Global, draft: &Draft, table: &Table) -> Result<Entry, Refusal>
-    ensures { Gives entry_text result (sink_of draft.now (table_view table.now)) }
+    ensures { AnswersReading entry_text result (sink_of draft.now (table_view table.now)) }
 {
     let inputs = inputs_of(draft, Op::Sink, table)?;
     let file = sink_file_of(draft, table)?;
@@ -137,7 +139,7 @@ fn sink_of(alloc: Global, draft: &Draft, table: &Table) -> Result<Entry, Refusal
 /// An operator with these inputs that computes this.
 #[tactic(auto, unfolding(crate::specs::Vertices::operator_of))]
 fn operator_of(inputs: Inputs, spec: Spec, table: &Table) -> Result<Entry, Refusal>
-    ensures { Gives entry_text result (operator_of inputs spec (table_view table.now)) }
+    ensures { AnswersReading entry_text result (operator_of inputs spec (table_view table.now)) }
 {
     let policy = policy_of(table)?;
     Ok(Entry {
@@ -170,7 +172,7 @@ fn replicas_of(table: &Table) -> Result<u32, JobWhy>
 
 #[tactic(auto, unfolding(crate::specs::Vertices::select_of))]
 fn select_of(alloc: Global, table: &Table) -> Result<Spec, Refusal>
-    ensures { Gives (λ spec. spec) result (select_of (table_view table.now)) }
+    ensures { AnswersReading (λ spec. spec) result (select_of (table_view table.now)) }
 {
     let test = test_of(alloc, table)?;
     let a = row_number_of(alloc, table, FieldName::A, "a")?;
@@ -191,7 +193,7 @@ fn window_of(table: &Table) -> Result<Spec, JobWhy>
 
 #[tactic(auto, unfolding(crate::specs::Vertices::source_file_of))]
 fn source_file_of(table: &Table) -> Result<&str, JobWhy>
-    ensures { seen (λ file. file.now) result ≡ source_file_of (table_view table.now) }
+    ensures { result_map (λ file. file.now) result ≡ source_file_of (table_view table.now) }
 {
     let file = needed_text(table, FieldName::File)?;
     if !is_file_name(file) {
@@ -205,7 +207,7 @@ fn source_file_of(table: &Table) -> Result<&str, JobWhy>
 
 #[tactic(auto, unfolding(crate::specs::Vertices::sink_file_of))]
 fn sink_file_of<'a>(draft: &Draft, table: &'a Table) -> Result<&'a str, JobWhy>
-    ensures { seen (λ file. file.now) result ≡ sink_file_of draft.now.vertices (table_view table.now) }
+    ensures { result_map (λ file. file.now) result ≡ sink_file_of draft.now.vertices (table_view table.now) }
 {
     let file = needed_text(table, FieldName::File)?;
     if !is_file_name(file) {

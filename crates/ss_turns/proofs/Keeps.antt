@@ -15,7 +15,7 @@ use Rattle.atomic_table.proofs.Lists.{at_set, set_here, set_else, at_snoc, at_ma
 use Rattle.ss_turns.specs.declared.view.View.{View}
 use Rattle.ss_turns.specs.View.{times, fresh, spent, took, missed, gave_back, asked, looked, fewer, one_share, merged}
 use Rattle.ss_turns.specs.Rule.{Kept}
-use Rattle.ss_turns.specs.Plays.{Takes, Gives, Asks, Looks}
+use Rattle.ss_turns.specs.Plays.{Takes, GivesBack, Asks, Looks}
 use Rattle.ss_turns.proofs.Counting.{times_here, times_else, times_without, times_without_else, sum_set, sum_at, there}
 
 -- how much a look at the stop word adds to what a pass has heard
@@ -165,14 +165,14 @@ module _ {T P : Type 0} (place : T → ℕ) (plan : T → P) (numbers : T → Li
       }
 
   gives_first : (slots id k : ℕ) (v : V) (x : T) (out : List (ℕ × Maybe T)) → k < slots → 0 < v.share → 0 < times k v.has → place x ≡ k → v.plan ≡ Some (plan x)
-      → Allows Rule slots id (v, (k, Some x) ∷ out) k (λ _. 0) (λ _. Gives numbers (step slots k 0 0 none) (v, (k, Some x) ∷ out) 0)
+      → Allows Rule slots id (v, (k, Some x) ∷ out) k (λ _. 0) (λ _. GivesBack numbers (step slots k 0 0 none) (v, (k, Some x) ∷ out) 0)
   gives_first slots id k v x out inside some_share has_it own_place own_plan s r long at small =
       (gave_back v k (numbers x), gives, tt, given s r id k v x at some_share (omega arith) has_it own_place own_plan, refl)
 
   pub gives_it : (slots id k : ℕ) (me : M) (x : T) (out : List (ℕ × Maybe T)) → me.1 ≡ (k, Some x) ∷ out → k < slots → 0 < me.0.share → 0 < times k me.0.has → place x ≡ k → me.0.plan ≡ Some (plan x)
-      → Allows Rule slots id me k (λ _. 0) (λ _. Gives numbers (step slots k 0 0 none) me 0)
+      → Allows Rule slots id me k (λ _. 0) (λ _. GivesBack numbers (step slots k 0 0 none) me 0)
   gives_it slots id k me x out first inside some_share has_it own_place own_plan =
-      subst (λ (carried : List (ℕ × Maybe T)). Allows Rule slots id (me.0, carried) k (λ _. 0) (λ _. Gives numbers (step slots k 0 0 none) (me.0, carried) 0)) (sym first)
+      subst (λ (carried : List (ℕ × Maybe T)). Allows Rule slots id (me.0, carried) k (λ _. 0) (λ _. GivesBack numbers (step slots k 0 0 none) (me.0, carried) 0)) (sym first)
       (gives_first slots id k me.0 x out inside some_share has_it own_place own_plan)
 
   pub asks_it : (slots id i : ℕ) (me : M) → i ≡ slots → 0 < me.0.share → Allows Rule slots id me i (λ _. 1) (λ _. Asks (step slots i 1 0 none) me 1)

@@ -17,12 +17,13 @@ module _ {T P : Type 0} where
   -- turn 0 was found, and the slot's value is out with the pass; or the turn was taken
   abbrev pub Takes : (T → ℕ) → (T → P) → (T → List ℕ) → Step (Maybe T) → Holder T P → ℕ → Holder T P → Type 0
   Takes place plan numbers st m found m' =
-      (found ≡ 0 → (x : T) × (place x ≡ st.word) × (m.0.plan ≡ Some (plan x)) × (m' ≡ (took m.0 st.word (numbers x), (st.word, Some x) ∷ m.1)))
+      (found ≡ 0 → (x : T) × (place x ≡ st.word) × (m.0.plan ≡ Some (plan x))
+      × (m' ≡ (took m.0 st.word (numbers x), (st.word, Some x) ∷ m.1)))
       × (found ≢ 0 → m' ≡ (missed m.0, m.1))
 
   -- the slot taken last goes home with the value that lies in it
-  abbrev pub Gives : (T → List ℕ) → Step (Maybe T) → Holder T P → ℕ → Holder T P → Type 0
-  Gives numbers st m stored m' = m' ≡ (gave_back m.0 st.word (first_numbers numbers m.1), rest m.1)
+  abbrev pub GivesBack : (T → List ℕ) → Step (Maybe T) → Holder T P → ℕ → Holder T P → Type 0
+  GivesBack numbers st m stored m' = m' ≡ (gave_back m.0 st.word (first_numbers numbers m.1), rest m.1)
 
   abbrev pub Asks : Step (Maybe T) → Holder T P → ℕ → Holder T P → Type 0
   Asks st m stored m' = m' ≡ (asked m.0, m.1)

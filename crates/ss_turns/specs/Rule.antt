@@ -7,7 +7,8 @@ use Rattle.ss_turns.specs.declared.view.View.{View}
 use Rattle.ss_turns.specs.View.{times, spent}
 
 -- for values of T with a place and a plan: all have the plan p, and `passes` shares were handed out
-pub record Kept {T P : Type 0} (place : T → ℕ) (plan : T → P) (p : P) (passes : ℕ) (s : State (Maybe T) (View P)) : Type 0 where
+pub record Kept {T P : Type 0}
+    (place : T → ℕ) (plan : T → P) (p : P) (passes : ℕ) (s : State (Maybe T) (View P)) : Type 0 where
   -- each slot has a word, its turn, and the last word is the stop word
   pub wide : length s.words ≡ length s.homes + 1
   -- a turn is the number of views that have its slot
@@ -15,7 +16,8 @@ pub record Kept {T P : Type 0} (place : T → ℕ) (plan : T → P) (p : P) (pas
   -- no two views have one slot
   pub single : (k : ℕ) → k < length s.homes → slice_index s.words k ≤ 1
   -- a slot that no view has is at home, with a value of its own place and of the plan
-  pub home : (k : ℕ) → k < length s.homes → slice_index s.words k ≡ 0 → (x : T) × (get_elem? s.homes k ≡ some (some (Some x))) × (place x ≡ k) × (plan x ≡ p)
+  pub home : (k : ℕ) → k < length s.homes → slice_index s.words k ≡ 0
+      → (x : T) × (get_elem? s.homes k ≡ some (some (Some x))) × (place x ≡ k) × (plan x ≡ p)
   -- no share is lost or made
   pub shares : sum_by (λ v. v.share) s.views ≡ passes
   -- every view that has a share knows the plan
@@ -23,6 +25,7 @@ pub record Kept {T P : Type 0} (place : T → ℕ) (plan : T → P) (p : P) (pas
   -- only what a join has spent has no share
   pub no_share : (j : ℕ) (v : View P) → get_elem? s.views j ≡ some v → v.share ≡ 0 → v ≡ spent
   -- the stop word is set, or some view was told of it, only where some view has asked for a stop
-  pub told : 0 < slice_index s.words (length s.homes) + sum_by (λ v. v.heard) s.views → 0 < sum_by (λ v. v.stops) s.views
+  pub told : 0 < slice_index s.words (length s.homes) + sum_by (λ v. v.heard) s.views
+      → 0 < sum_by (λ v. v.stops) s.views
   -- where some view has asked for a stop, the stop word is set
   pub asked : 0 < sum_by (λ v. v.stops) s.views → 0 < slice_index s.words (length s.homes)

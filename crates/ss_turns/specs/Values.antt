@@ -28,4 +28,5 @@ AtPlaces {T} place values = (k : ℕ) (x : T) → slice_get values k ≡ Some x 
 
 -- all values have one plan
 abbrev pub HaveOnePlan : {T P : Type 0} → (T → P) → List T → Type 0
-HaveOnePlan {T} plan values = (j k : ℕ) (x y : T) → slice_get values j ≡ Some x → slice_get values k ≡ Some y → plan x ≡ plan y
+HaveOnePlan {T} plan values =
+    (j k : ℕ) (x y : T) → slice_get values j ≡ Some x → slice_get values k ≡ Some y → plan x ≡ plan y

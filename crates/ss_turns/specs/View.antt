@@ -1,5 +1,6 @@
 -- What each call does to the view of a pass.
-use Rattle.std.specs.Prelude.{ℕ, ◌+◌, ◌-◌, ◌^◌, ◌==◌, min, Bool, List, [], ◌∷◌, filter, count_by, not, Option, Some, None, if◌then◌else◌}
+use Rattle.std.specs.Prelude.{ℕ, ◌+◌, ◌-◌, ◌^◌, ◌==◌, min, Bool, List, [], ◌∷◌, filter, count_by, not, Option, Some}
+use Rattle.std.specs.Prelude.{None, if◌then◌else◌}
 use Rattle.ss_turns.specs.declared.view.TakeRecord.{TakeRecord}
 use Rattle.ss_turns.specs.declared.view.View.{View}
 
@@ -23,7 +24,8 @@ record_of (r ∷ rs) k = if r.slot == k then r else record_of rs k
 module _ {P : Type 0} where
   -- the view of a pass that holds nothing and has done nothing
   abbrev pub fresh : Option P → ℕ → View P
-  fresh plan share = record { plan = plan; share = share; has = []; takes = 0; misses = 0; log = []; stops = 0; heard = 0 }
+  fresh plan share =
+      record { plan = plan; share = share; has = []; takes = 0; misses = 0; log = []; stops = 0; heard = 0 }
 
   -- what is left of the view of a pass that was joined to another
   abbrev pub spent : View P
@@ -33,7 +35,8 @@ module _ {P : Type 0} where
   abbrev pub took : View P → ℕ → List ℕ → View P
   took v k numbers =
       let n = raised v.takes 1 in
-      record v { has = k ∷ v.has; takes = n; log = record { slot = k; number = n; taken = numbers; given = None } ∷ v.log }
+      let entry : TakeRecord = record { slot = k; number = n; taken = numbers; given = None } in
+      record v { has = k ∷ v.has; takes = n; log = entry ∷ v.log }
 
   -- the exchange found the slot taken
   abbrev pub missed : View P → View P
@@ -41,7 +44,9 @@ module _ {P : Type 0} where
 
   -- slot k goes home with a value of these numbers
   abbrev pub gave_back : View P → ℕ → List ℕ → View P
-  gave_back v k numbers = let r = record_of v.log k in record v { has = without k v.has; log = record r { given = Some numbers } ∷ v.log }
+  gave_back v k numbers =
+      let r = record_of v.log k in
+      record v { has = without k v.has; log = record r { given = Some numbers } ∷ v.log }
 
   -- the stop word was set
   abbrev pub asked : View P → View P
@@ -61,4 +66,11 @@ module _ {P : Type 0} where
 
   -- the second view, which has no slot, goes into the first
   abbrev pub merged : View P → View P → View P
-  merged v w = record v { share = v.share + w.share; takes = raised v.takes w.takes; misses = raised v.misses w.misses; stops = v.stops + w.stops; heard = v.heard + w.heard }
+  merged v w =
+      record v {
+        share = v.share + w.share;
+        takes = raised v.takes w.takes;
+        misses = raised v.misses w.misses;
+        stops = v.stops + w.stops;
+        heard = v.heard + w.heard;
+      }

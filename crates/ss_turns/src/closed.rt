@@ -1,5 +1,6 @@
 //! The slots once no thread shares them any more.
-ghost use Rattle.std.specs.Prelude.{◌≡◌, ◌+◌, ◌<◌, true, false, [], length, replicate, slice_index_or, slice_set, is_some, Some, IfSome};
+ghost use Rattle.std.specs.Prelude.{◌≡◌, ◌+◌, ◌<◌, true, false, [], length, replicate, slice_index_or, slice_set};
+ghost use Rattle.std.specs.Prelude.{is_some, Some, IfSome};
 
 use crate::law::{Law, Opening};
 use crate::member::Member;
@@ -23,9 +24,13 @@ impl<V: Member> Model for Closed<V> {
 
     ghost Value = { ClosedValue V.Plan };
 
-    ghost view = { λ c. record { plan = c.pass.value.view.plan; there = at_home (slots_items c.slots.words) (slots_items c.slots.slots) } };
+    ghost view = { λ c. record {
+      plan = c.pass.value.view.plan;
+      there = at_home (slots_items c.slots.words) (slots_items c.slots.slots);
+    } };
 
-    ghost invariant = { λ c. IsFull c.slots.words × IsFull c.slots.slots × Stands V.place V.plan c.pass.value.view.plan (slots_items c.slots.words) (slots_items c.slots.slots) };
+    ghost invariant = { λ c. IsFull c.slots.words × IsFull c.slots.slots
+        × Stands V.place V.plan c.pass.value.view.plan (slots_items c.slots.words) (slots_items c.slots.slots) };
 }
 
 impl<V: Member> Closed<V> {
@@ -38,7 +43,8 @@ impl<V: Member> Closed<V> {
         requires free { pass.view.has ≡ [] }
         ensures plan { result.plan ≡ pass.view.plan }
         ensures slots { length result.there ≡ table.shared.table_id.slots }
-        ensures whole { pass.view.share ≡ table.shared.key.passes → result.there ≡ replicate table.shared.table_id.slots true }
+        ensures whole { pass.view.share ≡ table.shared.key.passes
+            → result.there ≡ replicate table.shared.table_id.slots true }
         ensures stop { pass.view.share ≡ table.shared.key.passes → 0 < pass.view.heard → 0 < pass.view.stops }
     {
         let seen = Snapshot::of(&pass);

@@ -34,7 +34,8 @@ impl<V: Member> Model for Pass<V> {
 pub(crate) fn bring<T, P>(seat: &mut Seat<Option<T>, View<P>>, held: &mut VecDeque<u32>, slot: u32)
     requires order { seat.old.me.1 ≡ emptied held.old.items }
     requires held { 0 < times slot held.old.items }
-    ensures seat { (seat.new.table_id ≡ seat.old.table_id) × (seat.new.id ≡ seat.old.id) × (seat.new.me.0 ≡ seat.old.me.0) }
+    ensures seat { (seat.new.table_id ≡ seat.old.table_id) × (seat.new.id ≡ seat.old.id)
+        × (seat.new.me.0 ≡ seat.old.me.0) }
     ensures order { seat.new.me.1 ≡ emptied held.new.items }
     ensures first { held.new.items ≡ slot ∷ drop 1 held.new.items }
     ensures same { (k : ℕ) → times k held.new.items ≡ times k held.old.items }

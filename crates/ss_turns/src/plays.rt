@@ -1,6 +1,6 @@
 //! What each step tells the pass that makes it.
 ghost use Rattle.ss_turns.specs.View.{spent, fewer, one_share, merged};
-ghost use Rattle.ss_turns.specs.Plays.{Takes, Gives, Asks, Looks};
+ghost use Rattle.ss_turns.specs.Plays.{Takes, GivesBack, Asks, Looks};
 
 use crate::member::Member;
 use crate::view::View;
@@ -20,7 +20,7 @@ pub(crate) struct Give<V> {
 }
 
 impl<V: Member> Play<Option<V>, View<V::Plan>> for Give<V> {
-    ghost then = { Gives V.numbers };
+    ghost then = { GivesBack V.numbers };
 }
 
 pub(crate) struct Ask;

@@ -1,5 +1,6 @@
 //! The slots with their turns, which threads share.
-ghost use Rattle.std.specs.Prelude.{◌≡◌, ℕ, ◌+◌, ◌<◌, true, [], length, vec_len, replicate, slice_get, Some, IfOk, IfErr, IfSome, IfNone};
+ghost use Rattle.std.specs.Prelude.{◌≡◌, ℕ, ◌+◌, ◌<◌, true, [], length, vec_len, replicate, slice_get, Some, IfOk};
+ghost use Rattle.std.specs.Prelude.{IfErr, IfSome, IfNone};
 ghost use Rattle.ss_turns.specs.View.{times, fresh, took, missed, gave_back, asked, looked, fewer, one_share, merged};
 ghost use Rattle.ss_turns.specs.Values.{IsPassOf, AtPlaces, HaveOnePlan};
 
@@ -50,7 +51,8 @@ impl<V: Member> Turns<V> {
         ensures passes { IfOk result (λ t. t.0.passes ≡ passes) }
         ensures pass { IfOk result (λ t. IsPassOf t.0 t.1) }
         ensures view { IfOk result (λ t. t.1.view ≡ fresh t.1.view.plan passes) }
-        ensures plan { IfOk result (λ t. (k : ℕ) (x : V) → slice_get values.items k ≡ Some x → t.1.view.plan ≡ Some (V.plan x)) }
+        ensures plan { IfOk result (λ t. (k : ℕ) (x : V)
+            → slice_get values.items k ≡ Some x → t.1.view.plan ≡ Some (V.plan x)) }
         ensures refused { IfErr result (λ e. e.0.items ≡ values.items) }
     {
         let Ok(room) = Room::of(alloc, values.len()) else {

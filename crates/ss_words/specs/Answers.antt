@@ -17,7 +17,7 @@ fault_of_kind OutOfMemory = Memory
 fault_of_kind _ = Usage
 
 -- an answer, seen by view, is what the words say: this, or nothing. Want of memory may come at any words
-abbrev pub Gives : {X Y : Type 0} → (X → Y) → Result X WordsFault → Option Y → Type 0
-Gives view (Ok x) said = said ≡ Some (view x)
-Gives view (Err Usage) said = said ≡ None
-Gives view (Err Memory) said = Unit {0}
+abbrev pub AnswersReading : {X Y : Type 0} → (X → Y) → Result X WordsFault → Option Y → Type 0
+AnswersReading view (Ok x) said = said ≡ Some (view x)
+AnswersReading view (Err Usage) said = said ≡ None
+AnswersReading view (Err Memory) said = Unit {0}

@@ -1,9 +1,10 @@
 -- Which command the words after the program's name say.
-use Rattle.std.specs.Prelude.{ℕ, ◌&&◌, nat_le, Bool, true, List, [], ◌∷◌, length, Option, Some, None, option_and_then, if◌then◌else◌, codes, bytes_eq, ⊤}
+use Rattle.std.specs.Prelude.{ℕ, ◌&&◌, nat_le, Bool, true, List, [], ◌∷◌, length, Option, Some, None, option_and_then}
+use Rattle.std.specs.Prelude.{if◌then◌else◌, codes, bytes_eq, ⊤}
 use Rattle.clap.specs.Simple.{on_top}
 use Rattle.clap.specs.Words.{App, Kinds, Row, Rule, fault_of, first_of, matches_of, new_app, new_rule, with_rule}
 use Rattle.ss_words.specs.declared.words.Action.{Action}
-use Rattle.ss_words.specs.declared.words.Action.TheVariants.{Check, Run}
+use Rattle.ss_words.specs.declared.words.Action.TheVariants.{Check, Plain, Run}
 
 infixl 10 ◌>>=◌
 abbrev pub ◌>>=◌ : {A B : Type 0} → Option A → (A → Option B) → Option B
@@ -33,7 +34,8 @@ without_name = on_top (λ top. record top { no_binary_name = true })
 -- the command as `clap` knows it: an action and then a subject
 unfoldable pub command_line : App
 command_line =
-    with_rule (with_rule (without_name (new_app (codes "streamscope"))) (required_word (codes "ACTION"))) (required_word (codes "SUBJECT"))
+    let app = with_rule (without_name (new_app (codes "streamscope"))) (required_word (codes "ACTION")) in
+    with_rule app (required_word (codes "SUBJECT"))
 
 -- what `clap` finds, where it refuses by no kind of error
 abbrev pub unless_refused : Kinds → List Row → Option (List Row)
@@ -47,11 +49,12 @@ rows_in words = unless_refused (fault_of command_line words) (matches_of command
 -- the action that a word names
 abbrev pub action_of : List ℕ → Option Action
 action_of word =
-    if bytes_eq word (codes "check") then Some Check else (if bytes_eq word (codes "run") then Some Run else None)
+    if bytes_eq word (codes "check") then Some Check
+    else (if bytes_eq word (codes "plain") then Some Plain else (if bytes_eq word (codes "run") then Some Run else None))
 
 -- a word that may name a file: 1 to 200 bytes
-abbrev pub is_file_name : List ℕ → Bool
-is_file_name word = nat_le 1 (length word) && nat_le (length word) 200
+abbrev pub is_file_word : List ℕ → Bool
+is_file_word word = nat_le 1 (length word) && nat_le (length word) 200
 
 -- the command that words say in which `clap` finds this: their action is one, and their subject names a file
 abbrev pub command_in : List Row → Option CommandText
@@ -59,7 +62,7 @@ command_in rows = do
   word ← first_of (codes "ACTION") rows
   action ← action_of word
   job ← first_of (codes "SUBJECT") rows
-  check (is_file_name job)
+  check (is_file_word job)
   Some (record { action = action; job = job })
 
 -- the command that the words after the program's name say

@@ -1,7 +1,7 @@
 ghost use Rattle.std.specs.Prelude.{◌≡◌, false, IfOk, map, option_map, string_bytes};
 ghost use Rattle.clap.specs.Words.{app_of, first_of, found_of, kind_of, rows_of, rule_of};
 ghost use Rattle.ss_words.specs.Words as spec;
-ghost use Rattle.ss_words.specs.Answers.{Gives, command_text, fault_of_kind};
+ghost use Rattle.ss_words.specs.Answers.{AnswersReading, command_text, fault_of_kind};
 
 use clap::error::ErrorKind;
 use clap::{Arg, ArgMatches, Error};
@@ -20,6 +20,8 @@ const MOST_FILE_BYTES: usize = 200;
 pub enum Action {
     /// Shows the job, and does none of its work.
     Check,
+    /// Writes what each sink takes, computed as a whole.
+    Plain,
     /// Does the job's work.
     Run,
 }
@@ -44,11 +46,11 @@ pub enum WordsFault {
 
 /// Reads the words after the program's name.
 ///
-/// A command is an action, `check` or `run`, and then the name of a job file, of 1 to 200 bytes. A word that begins
+/// A command is an action, `check`, `plain` or `run`, and then the name of a job file, of 1 to 200 bytes. A word that begins
 /// with `-` and has more bytes names a file only behind the word `--`.
 #[tactic(auto, unfolding(crate::specs::Words::command_of))]
 pub fn command_of(alloc: Global, words: &[String]) -> Result<Command<'_>, WordsFault>
-    ensures { Gives command_text result (spec.command_of (map string_bytes words.now)) }
+    ensures { AnswersReading command_text result (spec.command_of (map string_bytes words.now)) }
 {
     match matches_of(alloc, words) {
         Ok(matches) => match command_in(&matches) {
@@ -62,7 +64,8 @@ pub fn command_of(alloc: Global, words: &[String]) -> Result<Command<'_>, WordsF
 
 /// What `clap` finds in the words, where it takes them.
 fn matches_of(alloc: Global, words: &[String]) -> Result<ArgMatches<'_>, WordsFault>
-    ensures { Gives (λ matches. rows_of (found_of matches)) result (spec.rows_in (map string_bytes words.now)) }
+    ensures { AnswersReading (λ matches. rows_of (found_of matches)) result
+        (spec.rows_in (map string_bytes words.now)) }
 {
     let Ok(command_line) = command_line(alloc) else {
         return Err(WordsFault::Memory);
@@ -109,7 +112,7 @@ fn command_in<'a>(matches: &ArgMatches<'a>) -> Option<Command<'a>>
 {
     let action = action_of(word_at(matches, ACTION)?)?;
     let job = word_at(matches, SUBJECT)?;
-    if is_file_name(job) {
+    if is_file_word(job) {
         Some(Command { action, job })
     } else {
         None
@@ -129,14 +132,15 @@ fn action_of(word: &str) -> Option<Action>
 {
     match word {
         "check" => Some(Action::Check),
+        "plain" => Some(Action::Plain),
         "run" => Some(Action::Run),
         _ => None,
     }
 }
 
 /// Whether a word may name a file: it has 1 to 200 bytes.
-fn is_file_name(word: &str) -> bool
-    ensures { result ≡ spec.is_file_name word.now }
+fn is_file_word(word: &str) -> bool
+    ensures { result ≡ spec.is_file_word word.now }
 {
     !word.is_empty() && word.len() <= MOST_FILE_BYTES
 }

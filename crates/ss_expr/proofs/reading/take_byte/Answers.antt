@@ -16,7 +16,7 @@ returns-in-Ok-take-clause-goes_on c =
     let none : c.args.taken ≡ 0 = omega arith in
     let found = ap token_at (sym (from_place text c.args.at c.requires)) in
     rw (none, c.saturating_sub.ensures)
-    (read_taken text c.args.at (length text) c.in-Ok.len c.in-Ok.token c.args.parser.now c.take.new.self c.requires (sym c.is_blank.ensures ∙ c.if-is_blank.false) (found ∙ sym c.in-Ok.ensures) c.in-Ok-take.ensures.taken)
+    (read_taken text c.args.at (length text) c.in-Ok.len c.in-Ok.token c.args.parser.now c.take.new.self c.requires (sym c.is_blank.ensures ∙ c.if-is_blank.false) (found ∙ sym c.in-Ok.ensures) c.in-Ok-take.ensures)
 
 pub returns-in-Err-take-clause-refused : goal.returns-in-Err-take-clause-refused
 returns-in-Err-take-clause-refused c =
@@ -24,7 +24,7 @@ returns-in-Err-take-clause-refused c =
     let none : c.args.taken ≡ 0 = omega arith in
     let found = ap token_at (sym (from_place text c.args.at c.requires)) in
     rw none
-    (read_stopped text c.args.at (length text) c.in-Ok.len c.in-Ok.token c.args.parser.now c.in-Err-take.fault c.requires (sym c.is_blank.ensures ∙ c.if-is_blank.false) (found ∙ sym c.in-Ok.ensures) c.in-Err-take.ensures.refused)
+    (read_stopped text c.args.at (length text) c.in-Ok.len c.in-Ok.token c.args.parser.now c.in-Err-take.fault c.requires (sym c.is_blank.ensures ∙ c.if-is_blank.false) (found ∙ sym c.in-Ok.ensures) c.in-Err-take.ensures)
 
 pub returns-in-Err-clause-refused : goal.returns-in-Err-clause-refused
 returns-in-Err-clause-refused c =

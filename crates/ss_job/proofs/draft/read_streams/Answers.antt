@@ -5,7 +5,7 @@ use Rattle.ss_job.proofs.draft.read_streams.Goals as goal
 
 pub returns-then-is_unread : goal.returns-then-is_unread
 returns-then-is_unread c =
-    ap (λ (fault : JobFault). Err fault) c.at.ensures
+    ap (λ (fault : JobFault). Err fault) c.of_vertex.ensures
     ∙ sym (streams-stop c.args.nodes.now c.loop-v.v (omega arith) (sym c.is_unread.ensures ∙ c.if-is_unread.true)) ∙ c.loop-v.invariant
 
 pub loop-v-preserved : goal.loop-v-preserved

@@ -1,7 +1,7 @@
 use Rattle.std.proofs.Common.{◌≡◌, arith, subst, sym, ◌∙◌, get_or}
 use Rattle.ss_job.proofs.DraftLoop.{drafts-more, drafts-stop, drafts-end}
 use Rattle.ss_job.proofs.Views.{item_count-view}
-use Rattle.ss_job.specs.Answers.{FailsAt}
+use Rattle.ss_job.specs.Answers.{IsFaultOfDocument}
 use Rattle.ss_job.proofs.reader.drafts_of.Goals as goal
 
 pub overflow_cast-v : goal.overflow_cast-v
@@ -15,7 +15,7 @@ returns-in-Err c =
     let values = c.args.array.now.items in
     let here : get_or values c.loop-v.v c.value-item.result ≡ c.value-item.result = cc in
     let stop = drafts-stop c.loop-v.draft values c.loop-v.v c.value-item.result c.in-Err.fault (omega arith) here c.in-Err.ensures.refused in
-    subst (λ read. FailsAt c.in-Err.fault read) c.loop-v.invariant.read stop
+    subst (λ read. IsFaultOfDocument c.in-Err.fault read) c.loop-v.invariant.read stop
 
 pub loop-v-preserved : goal.loop-v-preserved
 loop-v-preserved c =

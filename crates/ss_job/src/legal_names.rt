@@ -1,7 +1,7 @@
 //! Which names vertices and files may have.
 ghost use Rattle.std.specs.Prelude.{◌≡◌};
 ghost use Rattle.std.specs.List.{list_all};
-ghost use Rattle.ss_job.specs.Names.{is_name_byte, is_file_byte, is_vertex_name, is_file_name};
+ghost use Rattle.ss_job.specs.LegalNames.{is_name_byte, is_file_byte, is_vertex_name, is_file_name};
 
 /// The most bytes of a vertex's name.
 const MOST_NAME_BYTES: usize = 32;

@@ -21,3 +21,7 @@ is_file_byte byte = nat_le 0x20 byte && nat_le byte 0x7E
 abbrev pub is_file_name : List ℕ → Bool
 is_file_name file =
     not (length file == 0) && nat_le (length file) 200 && list_all is_file_byte file && not (bytes_eq file (codes "!"))
+
+-- the same of a source, which can't read `-`, standard output
+abbrev pub is_source_file : List ℕ → Bool
+is_source_file file = is_file_name file && not (bytes_eq file (codes "-"))
