@@ -1,1 +1,3 @@
+mod Depots
 mod Examples
+pub mod Places

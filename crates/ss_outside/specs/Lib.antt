@@ -1,3 +1,5 @@
+pub mod Depot
+pub mod DepotCalls
 pub mod Faults
 pub mod FileInputs
 pub mod FileOutputs

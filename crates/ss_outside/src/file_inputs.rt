@@ -1,7 +1,8 @@
 //! Inputs that are real files.
 
-ghost use Rattle.std.specs.Prelude.{◌≡◌, ℕ, ◌≤◌, ◌↔◌, if◌then◌else◌, is_ok, length, IfOk, OnOk, OnErr, IsErrOf};
+ghost use Rattle.std.specs.Prelude.{◌≡◌, ◌≤◌, ◌↔◌, length, IfOk, OnOk};
 ghost use Rattle.std.specs.IoError.{error_kind};
+ghost use Rattle.ss_outside.specs.FileInputs as spec;
 
 use crate::inputs::{InputFault, Inputs};
 use std::fs;
@@ -9,7 +10,7 @@ use std::io::{self, ErrorKind, Read};
 use std::rt::Files;
 
 /// The greatest size of a file that is read, in bytes.
-const MOST_BYTES: u64 = 67_108_864;
+const MOST_BYTES: usize = 67_108_864;
 
 /// Real files. Nothing is told of their bytes. Each error raises the count of faults.
 #[derive(Drop)]
@@ -19,11 +20,11 @@ pub struct FileInputs<'a, R: Files + AllocGlobal> {
 }
 
 impl<'a, R: Files + AllocGlobal> FileInputs<'a, R> {
-    ghost use Rattle.ss_outside.specs.FileInputs.{file_input_faults, most_bytes};
+    ghost use Rattle.ss_outside.specs.FileInputs.{file_inputs_told, most_bytes};
 
     /// Inputs without a fault.
     pub fn new(rt: &'a R) -> FileInputs<'a, R>
-        ensures { file_input_faults result ≡ 0 }
+        ensures { (file_inputs_told result).faults ≡ 0 }
     {
         FileInputs { rt, faults: 0 }
     }
@@ -34,37 +35,29 @@ impl<'a, R: Files + AllocGlobal> FileInputs<'a, R> {
     {
         let mut bytes = Vec::new(self.rt.alloc());
         let file = fs::open(self.rt, name).map_err(fault_of)?;
-        file.take(MOST_BYTES + 1)
+        file.take(MOST_BYTES as u64 + 1)
             .read_to_end(&mut bytes)
             .map_err(fault_of)?;
-        if bytes.len() as u64 > MOST_BYTES {
-            return Err(InputFault::Failed);
-        }
-        Ok(bytes)
+        within_limit(bytes)
     }
 }
 
 impl<R: Files + AllocGlobal> Inputs for FileInputs<'_, R> {
-    ghost use Rattle.ss_outside.specs.Faults.{next_count, Rose};
-    ghost use Rattle.ss_outside.specs.Told.{untold, Same, AreBytesOf};
-    ghost use Rattle.ss_outside.specs.FileInputs.{file_input_faults, most_bytes};
+    ghost use Rattle.ss_outside.specs.Told.{Reads, Releases};
+    ghost use Rattle.ss_outside.specs.Faults.{counted};
+    ghost use Rattle.ss_outside.specs.FileInputs.{file_inputs_told, most_bytes};
 
-    ghost bytes = { λ _. untold };
-
-    ghost count = { file_input_faults };
+    ghost told = { file_inputs_told };
 
     fn faults(&self) -> u64 {
         self.faults
     }
 
     fn read(&mut self, name: &str, out: &mut Vec<u8>) -> Result<(), InputFault>
-        ensures read { OnOk result (AreBytesOf untold name.now out.new.items) }
-        ensures kept { OnErr result (out.new.items ≡ out.old.items) }
-        ensures told { Same untold untold }
-        ensures failed { IsErrOf result InputFault.Failed → Rose (file_input_faults self.old) (file_input_faults self.new) }
-        ensures counts { file_input_faults self.old ≤ file_input_faults self.new }
+        ensures reads { Reads (file_inputs_told self.old) (file_inputs_told self.new) name.now
+            out.old.items out.new.items result }
         ensures size { OnOk result (length out.new.items ≤ most_bytes) }
-        ensures count { file_input_faults self.new ≡ (if is_ok result then file_input_faults self.old else next_count (file_input_faults self.old)) }
+        ensures count { (file_inputs_told self.new).faults ≡ counted result (file_inputs_told self.old).faults }
     {
         match self.whole(name) {
             Ok(bytes) => {
@@ -77,6 +70,22 @@ impl<R: Files + AllocGlobal> Inputs for FileInputs<'_, R> {
             }
         }
     }
+
+    /// Does nothing: a real file keeps what it has.
+    fn release(&mut self, name: &str, mark: u64)
+        ensures releases { Releases (file_inputs_told self.old) (file_inputs_told self.new) name.now mark }
+        ensures same { self.new ≡ self.old }
+    {}
+}
+
+/// The bytes, or the fault of a file that is above the limit.
+fn within_limit(bytes: Vec<u8>) -> Result<Vec<u8>, InputFault>
+    ensures { result ≡ spec.within_limit bytes }
+{
+    if bytes.len() > MOST_BYTES {
+        return Err(InputFault::Failed);
+    }
+    Ok(bytes)
 }
 
 /// Tells want of memory from the other errors.

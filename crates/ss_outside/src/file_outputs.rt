@@ -1,6 +1,6 @@
 //! Outputs that are real files, standard output and standard error.
 
-ghost use Rattle.std.specs.Prelude.{◌≡◌, ℕ, ◌≤◌, ◌↔◌, List, false, if◌then◌else◌, is_ok, OnOk, IfErr, IsErrOf};
+ghost use Rattle.std.specs.Prelude.{◌≡◌, ◌↔◌, ℕ, List, false, is_ok, IfErr, bytes_eq, codes, position, string_bytes};
 ghost use Rattle.std.specs.IoError.{error_kind};
 
 use crate::outputs::{Outputs, PutFault};
@@ -14,6 +14,9 @@ use std::{fs, str};
 #[derive(Drop)]
 pub struct FileOutputs<'a, R: Files + Print + Eprint + AllocGlobal> {
     rt: &'a R,
+    // Whether standard output and standard error were put to.
+    output_used: bool,
+    error_used: bool,
     // The names of the files that are open, and the files in the same order.
     names: Vec<String>,
     files: Vec<R::File>,
@@ -21,16 +24,17 @@ pub struct FileOutputs<'a, R: Files + Print + Eprint + AllocGlobal> {
 }
 
 impl<'a, R: Files + Print + Eprint + AllocGlobal> FileOutputs<'a, R> {
-    ghost use Rattle.ss_outside.specs.Told.{SameNames, Spares};
-    ghost use Rattle.ss_outside.specs.FileOutputs.{file_output_faults, file_output_names};
+    ghost use Rattle.ss_outside.specs.FileOutputs.{Writes, file_outputs_told, files_put_to};
 
-    /// No file open, and no fault. It takes no memory.
+    /// No file open, nothing put, and no fault. It takes no memory.
     pub fn new(rt: &'a R) -> FileOutputs<'a, R>
-        ensures count { file_output_faults result ≡ 0 }
-        ensures names { (name : List ℕ) → file_output_names result name ≡ false }
+        ensures count { (file_outputs_told result).faults ≡ 0 }
+        ensures names { (name : List ℕ) → files_put_to result name ≡ false }
     {
         FileOutputs {
             rt,
+            output_used: false,
+            error_used: false,
             names: Vec::new(rt.alloc()),
             files: Vec::new(rt.alloc()),
             faults: 0,
@@ -39,19 +43,25 @@ impl<'a, R: Files + Print + Eprint + AllocGlobal> FileOutputs<'a, R> {
 
     /// Writes the text to what the name stands for.
     fn write(&mut self, name: &str, text: &[u8]) -> Result<(), PutFault>
-        ensures count { file_output_faults self.new ≡ file_output_faults self.old }
-        ensures names { Spares (file_output_names self.old) (file_output_names self.new) name.now }
-        ensures untouched { IsErrOf result PutFault.Memory → SameNames (file_output_names self.old) (file_output_names self.new) }
+        ensures { Writes (file_outputs_told self.old) (file_outputs_told self.new) name.now result }
     {
         match name {
-            "-" => written(self.rt.write_all(text)),
-            "!" => self.write_error(text),
+            "-" => {
+                self.output_used = true;
+                written(self.rt.write_all(text))
+            }
+            "!" => {
+                self.error_used = true;
+                self.write_error(text)
+            }
             _ => self.write_file(name, text),
         }
     }
 
     /// Standard error takes text alone: other bytes are refused whole.
-    fn write_error(&self, text: &[u8]) -> Result<(), PutFault> {
+    fn write_error(&self, text: &[u8]) -> Result<(), PutFault>
+        ensures { IfErr result (λ fault. fault ≡ PutFault.Failed) }
+    {
         match str::from_utf8(text) {
             Ok(text) => written(self.rt.eprint(text)),
             Err(_) => Err(PutFault::Failed),
@@ -60,20 +70,22 @@ impl<'a, R: Files + Print + Eprint + AllocGlobal> FileOutputs<'a, R> {
 
     /// Writes to the open file of that name, which the first put opens and makes empty.
     fn write_file(&mut self, name: &str, text: &[u8]) -> Result<(), PutFault>
-        ensures count { file_output_faults self.new ≡ file_output_faults self.old }
-        ensures names { Spares (file_output_names self.old) (file_output_names self.new) name.now }
-        ensures untouched { IsErrOf result PutFault.Memory → SameNames (file_output_names self.old) (file_output_names self.new) }
+        requires output { bytes_eq name.now (codes "-") ≡ false }
+        requires error { bytes_eq name.now (codes "!") ≡ false }
+        ensures { Writes (file_outputs_told self.old) (file_outputs_told self.new) name.now result }
     {
-        match self.names.iter().position(|open| open.as_str() == name) {
-            Some(place) => self.write_open(place, text),
+        match place_of(self.names.as_slice(), name) {
+            Some(place) => match self.write_open(place, text) {
+                Ok(()) => Ok(()),
+                Err(fault) => Err(fault),
+            },
             None => self.write_first(name, text),
         }
     }
 
     /// Writes to the open file at this place.
     fn write_open(&mut self, place: usize, text: &[u8]) -> Result<(), PutFault>
-        ensures count { file_output_faults self.new ≡ file_output_faults self.old }
-        ensures names { SameNames (file_output_names self.old) (file_output_names self.new) }
+        ensures told { file_outputs_told self.new ≡ file_outputs_told self.old }
         ensures failed { IfErr result (λ fault. fault ≡ PutFault.Failed) }
     {
         match self.files.get_mut(place) {
@@ -85,9 +97,9 @@ impl<'a, R: Files + Print + Eprint + AllocGlobal> FileOutputs<'a, R> {
     /// Makes the file empty, writes to it and keeps it open. What takes memory comes before the write, so
     /// that nothing was put where memory is wanting.
     fn write_first(&mut self, name: &str, text: &[u8]) -> Result<(), PutFault>
-        ensures count { file_output_faults self.new ≡ file_output_faults self.old }
-        ensures names { Spares (file_output_names self.old) (file_output_names self.new) name.now }
-        ensures untouched { IsErrOf result PutFault.Memory → SameNames (file_output_names self.old) (file_output_names self.new) }
+        requires output { bytes_eq name.now (codes "-") ≡ false }
+        requires error { bytes_eq name.now (codes "!") ≡ false }
+        ensures { Writes (file_outputs_told self.old) (file_outputs_told self.new) name.now result }
     {
         let kept_name = String::from_str(self.rt.alloc(), name)?;
         self.names.try_reserve(1)?;
@@ -101,38 +113,39 @@ impl<'a, R: Files + Print + Eprint + AllocGlobal> FileOutputs<'a, R> {
 }
 
 impl<R: Files + Print + Eprint + AllocGlobal> Outputs for FileOutputs<'_, R> {
-    ghost use Rattle.ss_outside.specs.Faults.{next_count, Rose};
-    ghost use Rattle.ss_outside.specs.Told.{untold, Same, Appends, AppendsPart, SameNames, Spares};
-    ghost use Rattle.ss_outside.specs.FileOutputs.{file_output_faults, file_output_names};
+    ghost use Rattle.ss_outside.specs.Faults.{counted};
+    ghost use Rattle.ss_outside.specs.Told.{Puts};
+    ghost use Rattle.ss_outside.specs.FileOutputs.{file_outputs_told};
 
-    ghost bytes = { λ _. untold };
-
-    ghost names = { file_output_names };
-
-    ghost count = { file_output_faults };
+    ghost told = { file_outputs_told };
 
     fn faults(&self) -> u64 {
         self.faults
     }
 
     fn put(&mut self, name: &str, text: &[u8]) -> Result<(), PutFault>
-        ensures put { OnOk result (Appends untold untold name.now text.now) }
-        ensures failed { IsErrOf result PutFault.Failed → Rose (file_output_faults self.old) (file_output_faults self.new) }
-        ensures part { IsErrOf result PutFault.Failed → AppendsPart untold untold name.now text.now }
-        ensures memory { IsErrOf result PutFault.Memory → Same untold untold }
-        ensures names { Spares (file_output_names self.old) (file_output_names self.new) name.now }
-        ensures untouched { IsErrOf result PutFault.Memory → SameNames (file_output_names self.old) (file_output_names self.new) }
-        ensures counts { file_output_faults self.old ≤ file_output_faults self.new }
-        ensures count { file_output_faults self.new ≡ (if is_ok result then file_output_faults self.old else next_count (file_output_faults self.old)) }
+        ensures puts { Puts (file_outputs_told self.old) (file_outputs_told self.new) name.now text.now result }
+        ensures count { (file_outputs_told self.new).faults ≡ counted result (file_outputs_told self.old).faults }
     {
         match self.write(name, text) {
             Ok(()) => Ok(()),
-            Err(fault) => {
+            Err(PutFault::Failed) => {
                 self.faults = self.faults.saturating_add(1);
-                Err(fault)
+                Err(PutFault::Failed)
+            }
+            Err(PutFault::Memory) => {
+                self.faults = self.faults.saturating_add(1);
+                Err(PutFault::Memory)
             }
         }
     }
+}
+
+/// The place of a name among those of the open files.
+fn place_of(names: &[String], name: &str) -> Option<usize>
+    ensures { result ≡ position (λ open_name. bytes_eq name.now (string_bytes open_name)) names.now }
+{
+    names.iter().position(|open| name == open.as_str())
 }
 
 /// What a write that was begun answers: whatever the error, a prefix may have been taken.

@@ -1,9 +1,7 @@
 //! Files that are read whole, by name.
 
-ghost use Rattle.std.specs.Prelude.{◌≡◌, ℕ, ◌≤◌, List, Option, OnOk, OnErr, IsErrOf};
-ghost use Rattle.ss_outside.specs.Faults.{Rose};
+ghost use Rattle.std.specs.Prelude.{◌≡◌};
 ghost use Rattle.ss_outside.specs.declared.inputs.InputFault.TheVariants.{Memory};
-ghost use Rattle.ss_outside.specs.Told.{Same, AreBytesOf};
 
 use std::alloc::AllocError;
 
@@ -24,21 +22,21 @@ impl From<AllocError> for InputFault {
     }
 }
 
-/// A place to read files from. It may tell the bytes of its names, and it counts its faults.
+/// A place to read files from. It tells what is known of each name, and it counts its faults.
 pub trait Inputs: Drop {
-    ghost bytes: { Self → List ℕ → Option (List ℕ) };
+    ghost use Rattle.ss_outside.specs.Told.{InputsTold, Reads, Releases};
 
-    ghost count: { Self → ℕ };
+    ghost told: { Self → InputsTold };
 
     /// How many faults there were. The count stays at `u64::MAX`.
     fn faults(&self) -> u64
-        ensures { result ≡ count self.now };
+        ensures { result ≡ (told self.now).faults };
 
-    /// Replaces `out` by the whole file.
+    /// Replaces `out` by the whole file, or leaves it as it was.
     fn read(&mut self, name: &str, out: &mut Vec<u8>) -> Result<(), InputFault>
-        ensures read { OnOk result (AreBytesOf (bytes self.old) name.now out.new.items) }
-        ensures kept { OnErr result (out.new.items ≡ out.old.items) }
-        ensures told { Same (bytes self.old) (bytes self.new) }
-        ensures failed { IsErrOf result InputFault.Failed → Rose (count self.old) (count self.new) }
-        ensures counts { count self.old ≤ count self.new };
+        ensures { Reads (told self.old) (told self.new) name.now out.old.items out.new.items result };
+
+    /// Says that what stands before the mark will not be read again. The mark of a name never falls.
+    fn release(&mut self, name: &str, mark: u64)
+        ensures { Releases (told self.old) (told self.new) name.now mark };
 }

@@ -2,6 +2,7 @@
 #![tactic(auto)]
 
 mod depot;
+mod depot_calls;
 mod file_inputs;
 mod file_outputs;
 mod inputs;
@@ -9,8 +10,10 @@ mod mem_depot;
 mod mem_inputs;
 mod mem_outputs;
 mod outputs;
+mod records;
 
-pub use depot::Depot;
+pub use depot::{Depot, DepotFault, Failed};
+pub use depot_calls::DepotCall;
 pub use file_inputs::FileInputs;
 pub use file_outputs::FileOutputs;
 pub use inputs::{InputFault, Inputs};

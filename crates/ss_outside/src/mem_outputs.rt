@@ -1,6 +1,6 @@
 //! Outputs in memory.
 
-ghost use Rattle.std.specs.Prelude.{◌≡◌, ℕ, ◌≤◌, if◌then◌else◌, [], ◌∷◌, ◌++◌, List, take, false, None, OnOk, OnErr, IsErrOf, IsSomeAnd};
+ghost use Rattle.std.specs.Prelude.{◌≡◌, [], ◌∷◌, ◌++◌, List, ℕ, take, false, OnOk, OnErr};
 
 use crate::Memory;
 use crate::outputs::{Outputs, PutFault};
@@ -17,16 +17,17 @@ pub struct MemOutputs {
 }
 
 impl MemOutputs {
-    ghost use Rattle.ss_outside.specs.Told.{Same, Appends, SameNames, Spares};
-    ghost use Rattle.ss_outside.specs.MemOutputs.{outputs_held, outputs_at, outputs_names, outputs_faults, outputs_calls, outputs_listed, kept_at, next_kept, put_failed};
+    ghost use Rattle.ss_outside.specs.Told.{KeepsOutputs};
+    ghost use Rattle.ss_outside.specs.MemOutputs.{Gains, KeepsCalls, bytes_held, kept_in, mem_outputs_told};
+    ghost use Rattle.ss_outside.specs.MemOutputs.{names_put_to, puts_listed, puts_made};
 
     /// No bytes under any name, and no put listed. It takes no memory.
     pub fn new(alloc: Global) -> MemOutputs
-        ensures empty { (name : List ℕ) → outputs_held result name ≡ [] }
-        ensures names { (name : List ℕ) → outputs_names result name ≡ false }
-        ensures listed { outputs_listed result ≡ [] }
-        ensures calls { outputs_calls result ≡ 0 }
-        ensures count { outputs_faults result ≡ 0 }
+        ensures empty { (name : List ℕ) → bytes_held result name ≡ [] }
+        ensures names { (name : List ℕ) → names_put_to result name ≡ false }
+        ensures listed { puts_listed result ≡ [] }
+        ensures calls { puts_made result ≡ 0 }
+        ensures count { (mem_outputs_told result).faults ≡ 0 }
     {
         MemOutputs {
             files: BTreeMap::new(alloc),
@@ -38,7 +39,7 @@ impl MemOutputs {
 
     /// The bytes of the name, none where nothing was put.
     pub fn bytes(&self, name: &str) -> &[u8]
-        ensures { result.now ≡ outputs_held self.now name.now }
+        ensures { result.now ≡ bytes_held self.now name.now }
     {
         match self.files.get(name) {
             Some(bytes) => bytes.as_slice(),
@@ -46,15 +47,20 @@ impl MemOutputs {
         }
     }
 
+    /// Whether the name was put to, be it without a byte.
+    pub fn was_put_to(&self, name: &str) -> bool
+        ensures { result ≡ names_put_to self.now name.now }
+    {
+        self.files.contains_key(name)
+    }
+
     /// The put of that number, from 1, is to fail after `kept` bytes, or after all where the text is shorter.
     /// Where a call is listed twice, the first entry counts.
     pub fn fail(&mut self, call: u64, kept: u64) -> Result<(), Memory>
-        ensures added { OnOk result (outputs_listed self.new ≡ outputs_listed self.old ++ (call, kept) ∷ []) }
-        ensures err { OnErr result (outputs_listed self.new ≡ outputs_listed self.old) }
-        ensures told { Same (outputs_at self.old) (outputs_at self.new) }
-        ensures names { SameNames (outputs_names self.old) (outputs_names self.new) }
-        ensures calls { outputs_calls self.new ≡ outputs_calls self.old }
-        ensures count { outputs_faults self.new ≡ outputs_faults self.old }
+        ensures added { OnOk result (puts_listed self.new ≡ puts_listed self.old ++ (call, kept) ∷ []) }
+        ensures kept { OnErr result (puts_listed self.new ≡ puts_listed self.old) }
+        ensures calls { puts_made self.new ≡ puts_made self.old }
+        ensures told { mem_outputs_told self.new ≡ mem_outputs_told self.old }
     {
         self.fails.push((call, kept))?;
         Ok(())
@@ -62,31 +68,28 @@ impl MemOutputs {
 
     /// Puts the text behind what the name has.
     fn append(&mut self, name: &str, text: &[u8]) -> Result<(), Memory>
-        ensures added { OnOk result (Appends (outputs_at self.old) (outputs_at self.new) name.now text.now) }
-        ensures err { OnErr result (Same (outputs_at self.old) (outputs_at self.new)) }
-        ensures names { Spares (outputs_names self.old) (outputs_names self.new) name.now }
-        ensures untouched { OnErr result (SameNames (outputs_names self.old) (outputs_names self.new)) }
-        ensures listed { outputs_listed self.new ≡ outputs_listed self.old }
-        ensures calls { outputs_calls self.new ≡ outputs_calls self.old }
-        ensures count { outputs_faults self.new ≡ outputs_faults self.old }
+        ensures added { OnOk result (Gains self.old self.new name.now text.now) }
+        ensures kept { OnErr result (KeepsOutputs (mem_outputs_told self.old) (mem_outputs_told self.new)) }
+        ensures calls { KeepsCalls self.old self.new }
     {
         match self.files.get_mut(name) {
-            Some(bytes) => bytes.extend_from_slice(text)?,
-            None => self.first(name, text)?,
+            Some(bytes) => match bytes.extend_from_slice(text) {
+                Ok(()) => Ok(()),
+                Err(memory) => Err(memory),
+            },
+            None => match self.first(name, text) {
+                Ok(()) => Ok(()),
+                Err(memory) => Err(memory),
+            },
         }
-        Ok(())
     }
 
     /// Makes the name, with this text.
     fn first(&mut self, name: &str, text: &[u8]) -> Result<(), Memory>
-        requires { outputs_held self.old name.now ≡ [] }
-        ensures added { OnOk result (Appends (outputs_at self.old) (outputs_at self.new) name.now text.now) }
-        ensures err { OnErr result (Same (outputs_at self.old) (outputs_at self.new)) }
-        ensures names { Spares (outputs_names self.old) (outputs_names self.new) name.now }
-        ensures untouched { OnErr result (SameNames (outputs_names self.old) (outputs_names self.new)) }
-        ensures listed { outputs_listed self.new ≡ outputs_listed self.old }
-        ensures calls { outputs_calls self.new ≡ outputs_calls self.old }
-        ensures count { outputs_faults self.new ≡ outputs_faults self.old }
+        requires { bytes_held self.old name.now ≡ [] }
+        ensures added { OnOk result (Gains self.old self.new name.now text.now) }
+        ensures kept { OnErr result (KeepsOutputs (mem_outputs_told self.old) (mem_outputs_told self.new)) }
+        ensures calls { KeepsCalls self.old self.new }
     {
         let alloc = *self.fails.allocator();
         let bytes = text.to_vec(alloc)?;
@@ -97,7 +100,7 @@ impl MemOutputs {
 
     /// How many bytes the put of the present number keeps, where it is to fail.
     fn kept(&self) -> Option<u64>
-        ensures { result ≡ kept_at self.now (outputs_calls self.now) }
+        ensures { result ≡ kept_in (puts_listed self.now) (puts_made self.now) }
     {
         let entry = self.fails.iter().find(|entry| entry.0 == self.calls)?;
         Some(entry.1)
@@ -105,42 +108,33 @@ impl MemOutputs {
 }
 
 impl Outputs for MemOutputs {
-    ghost use Rattle.ss_outside.specs.Faults.{next_count, Rose};
-    ghost use Rattle.ss_outside.specs.Told.{Same, Appends, AppendsPart, SameNames, Spares};
-    ghost use Rattle.ss_outside.specs.MemOutputs.{outputs_at, outputs_names, outputs_faults, outputs_calls, outputs_listed, kept_at, next_kept, put_failed};
+    ghost use Rattle.ss_outside.specs.Told.{Puts};
+    ghost use Rattle.ss_outside.specs.MemOutputs.{PutsAsListed, mem_outputs_told};
 
-    ghost bytes = { outputs_at };
-
-    ghost names = { outputs_names };
-
-    ghost count = { outputs_faults };
+    ghost told = { mem_outputs_told };
 
     fn faults(&self) -> u64 {
         self.faults
     }
 
     fn put(&mut self, name: &str, text: &[u8]) -> Result<(), PutFault>
-        ensures put { OnOk result (Appends (outputs_at self.old) (outputs_at self.new) name.now text.now) }
-        ensures failed { IsErrOf result PutFault.Failed → Rose (outputs_faults self.old) (outputs_faults self.new) }
-        ensures part { IsErrOf result PutFault.Failed → AppendsPart (outputs_at self.old) (outputs_at self.new) name.now text.now }
-        ensures memory { IsErrOf result PutFault.Memory → Same (outputs_at self.old) (outputs_at self.new) }
-        ensures names { Spares (outputs_names self.old) (outputs_names self.new) name.now }
-        ensures untouched { IsErrOf result PutFault.Memory → SameNames (outputs_names self.old) (outputs_names self.new) }
-        ensures counts { outputs_faults self.old ≤ outputs_faults self.new }
-        ensures kept { IsErrOf result PutFault.Failed → IsSomeAnd (next_kept self.old) (λ kept. Appends (outputs_at self.old) (outputs_at self.new) name.now (take kept text.now)) }
-        ensures unlisted { OnOk result (next_kept self.old ≡ None) }
-        ensures count { outputs_faults self.new ≡ (if put_failed result then next_count (outputs_faults self.old) else outputs_faults self.old) }
-        ensures calls { outputs_calls self.new ≡ next_count (outputs_calls self.old) }
-        ensures listed { outputs_listed self.new ≡ outputs_listed self.old }
+        ensures puts { Puts (mem_outputs_told self.old) (mem_outputs_told self.new) name.now text.now result }
+        ensures listed { PutsAsListed self.old self.new name.now text.now result }
     {
         self.calls = self.calls.saturating_add(1);
-        let Some(kept) = self.kept() else {
-            self.append(name, text)?;
-            return Ok(());
-        };
-        self.append(name, prefix(text, kept))?;
-        self.faults = self.faults.saturating_add(1);
-        Err(PutFault::Failed)
+        match self.kept() {
+            None => match self.append(name, text) {
+                Ok(()) => Ok(()),
+                Err(_) => Err(PutFault::Memory),
+            },
+            Some(kept) => match self.append(name, prefix(text, kept)) {
+                Ok(()) => {
+                    self.faults = self.faults.saturating_add(1);
+                    Err(PutFault::Failed)
+                }
+                Err(_) => Err(PutFault::Memory),
+            },
+        }
     }
 }
 

@@ -4,7 +4,12 @@ use Rattle.std.proofs.lemmas.Map.Text.{text_keys}
 use Rattle.ss_outside.proofs.mem_outputs.MemOutputs.first.Goals as goal
 
 pub returns-clause-added : goal.returns-clause-added
-returns-clause-added c = λ name. grind (arith, text_keys)
-
-pub returns-clause-names : goal.returns-clause-names
-returns-clause-names c = λ name other. grind (arith, text_keys)
+returns-clause-added c = record {
+  appended = record {
+    bytes = λ other. grind (arith, text_keys);
+    stays = λ was. grind (arith, text_keys);
+    others = λ other differs. grind (arith, text_keys);
+    faults = omega arith;
+  };
+  named = grind (arith, text_keys);
+}
