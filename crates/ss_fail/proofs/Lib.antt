@@ -1,1 +1,4 @@
+pub mod DigitsGrow
 pub mod NameBytes
+pub mod Parts
+pub mod Values

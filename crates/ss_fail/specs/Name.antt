@@ -25,5 +25,6 @@ length-padded text few =
 pub length-kept : (bytes : List ℕ) (len : ℕ) → IsKept bytes len → length (take len bytes) ≡ len
 length-kept bytes len kept =
     let text : length (take len bytes) ≡ min len (length bytes) = length-take len bytes in
-    let whole : length bytes ≡ 32 = ap length kept.zeros ∙ length-padded (take len bytes) (omega (arith, text, kept.few)) in
+    let few : length (take len bytes) ≤ 32 = omega (arith, text, kept.few) in
+    let whole : length bytes ≡ 32 = ap length kept.zeros ∙ length-padded (take len bytes) few in
     omega (arith, text, whole, kept.few)

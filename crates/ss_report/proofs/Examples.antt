@@ -1,5 +1,5 @@
 -- The texts at a few values, without their newlines where a cause stands alone.
-use Rattle.std.proofs.Common.{◌≡◌, ◌^◌, ◌-◌, List, [], ◌∷◌, replicate, Some, None, pos, negsuc, codes, refl}
+use Rattle.std.proofs.Common.{◌≡◌, ◌^◌, ◌-◌, List, [], ◌∷◌, replicate, true, Some, None, pos, negsuc, codes, refl}
 use Rattle.std.specs.Fmt.{digits}
 use Rattle.ss_events.specs.declared.fault.EventWhy.TheVariants as event
 use Rattle.ss_fail.specs.declared.role.Role.{Role}
@@ -10,7 +10,7 @@ use Rattle.ss_report.specs.FaultText.{fault_text, events_text, job_text}
 use Rattle.ss_report.specs.StateText.{state_text}
 use Rattle.ss_report.specs.WhyText.{job_why, event_why}
 use Rattle.ss_report.specs.declared.fault.Fault.TheVariants as fault
-use Rattle.ss_report.specs.declared.state_row.StateRow.TheVariants.{Vertex, Checked, Summary, Done}
+use Rattle.ss_report.specs.declared.state_row.StateRow.TheVariants as row
 use Rattle.ss_water.specs.declared.node.Kind.TheVariants as kind
 
 pub job_why-expression : job_why (job.BadExpr Where 0) ≡ codes "bad expression where at 0"
@@ -61,25 +61,45 @@ roles =
     ∷ record { name = codes "out"; kind = kind.Sink; replicas = 1 }
     ∷ []
 
-pub state_text-source : state_text roles (Vertex 0 Source (replicate 8 0) 0) ≡ codes "0 in source\n"
+pub state_text-source : state_text roles (row.Vertex 0 Source (replicate 8 0) 0) ≡ codes "0 in source\n"
 unfolding digits
 state_text-source = refl
 
-pub state_text-window : state_text roles (Vertex 1 Window (replicate 8 0) 1) ≡ codes "1 w window in\n"
+pub state_text-window : state_text roles (row.Vertex 1 Window (replicate 8 0) 1) ≡ codes "1 w window in\n"
 unfolding digits
 state_text-window = refl
 
-pub state_text-sink : state_text roles (Vertex 2 Sink (1 ∷ replicate 7 0) 1) ≡ codes "2 out sink w\n"
+pub state_text-sink : state_text roles (row.Vertex 2 Sink (1 ∷ replicate 7 0) 1) ≡ codes "2 out sink w\n"
 unfolding digits
 state_text-sink = refl
 
-pub state_text-checked : state_text roles (Checked 3) ≡ codes "ok 3\n"
+pub state_text-checked : state_text roles (row.Checked 3) ≡ codes "ok 3\n"
 unfolding digits
 state_text-checked = refl
 
-pub state_text-summary : state_text roles (Summary 2 3) ≡ codes "sink out 3\n"
+pub state_text-summary : state_text roles (row.Summary 2 3) ≡ codes "sink out 3\n"
 unfolding digits
 state_text-summary = refl
 
-pub state_text-done : state_text roles Done ≡ codes "done\n"
+pub state_text-done : state_text roles row.Done ≡ codes "done\n"
 state_text-done = refl
+
+pub state_text-stream : state_text roles (row.Source 0 1 3 2 4 true 5) ≡ codes "stream in base 1 dur 3 from 2 end 4 torn yes mark 5\n"
+unfolding digits
+state_text-stream = refl
+
+pub state_text-up : state_text roles (row.Up 1 0 9 8 7) ≡ codes "inst w 0 up n 9 next 8 left 7\n"
+unfolding digits
+state_text-up = refl
+
+pub state_text-down : state_text roles (row.Down 1 1) ≡ codes "inst w 1 down\n"
+unfolding digits
+state_text-down = refl
+
+pub state_text-taken : state_text roles (row.Sink 2 6) ≡ codes "sink out taken 6\n"
+unfolding digits
+state_text-taken = refl
+
+pub state_text-journal : state_text roles (row.Journal 3 2) ≡ codes "journal 3 since 2\n"
+unfolding digits
+state_text-journal = refl

@@ -1,1 +1,5 @@
+pub mod ActsAgain
 pub mod Examples
+pub mod Said
+pub mod Vertices
+pub mod Words

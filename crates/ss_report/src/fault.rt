@@ -2,6 +2,7 @@ ghost use Rattle.std.specs.Prelude.{◌≡◌};
 ghost use Rattle.ss_report.specs.Status.{status_of};
 
 use ss_events::EventFault;
+use ss_fail::ScriptFault;
 use ss_job::JobFault;
 
 /// What ended a command before its work was done.
@@ -28,10 +29,33 @@ pub enum Fault<'a> {
         /// The file's name.
         file: &'a str,
     },
+    /// The store failed.
+    Store,
     /// An output failed.
     Output,
+    /// The bytes of a schedule or a failure file are none.
+    Script {
+        /// The file's name.
+        file: &'a str,
+        /// The first line at fault.
+        fault: ScriptFault,
+    },
+    /// A stream has more elements than it may.
+    Full {
+        /// The name of its vertex.
+        name: &'a str,
+        /// How many it may have.
+        most: u64,
+    },
     /// Memory ran out.
     Memory,
+    /// The store gave bytes that aren't what was stored.
+    Damaged {
+        /// The name of the vertex whose bytes they are.
+        name: &'a str,
+        /// The number of the element or of the snapshot.
+        n: u64,
+    },
 }
 
 /// The status with which the program ends at a fault.
@@ -43,7 +67,11 @@ pub fn status_of(fault: &Fault<'_>) -> u8
         Fault::Job(_) | Fault::NotBuilt { .. } => 3,
         Fault::Events { .. } => 4,
         Fault::Inputs { .. } => 5,
+        Fault::Store => 6,
         Fault::Output => 7,
+        Fault::Script { .. } => 8,
+        Fault::Full { .. } => 9,
         Fault::Memory => 10,
+        Fault::Damaged { .. } => 11,
     }
 }

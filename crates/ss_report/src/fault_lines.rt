@@ -1,19 +1,24 @@
 //! The line of each fault.
 ghost use Rattle.std.specs.Prelude.{◌≡◌, ◌++◌, OnOk, OnErr, IfSome, is_some};
-ghost use Rattle.ss_report.specs.FaultText.{events_text, fault_text, is_fixed, job_head, job_text};
+ghost use Rattle.ss_report.specs.FaultText.{damaged_text, events_text, fault_text, full_text};
+ghost use Rattle.ss_report.specs.FaultText.{is_fixed, job_head, job_text};
+ghost use Rattle.ss_report.specs.FaultText.{script_text};
 ghost use Rattle.ss_report.specs.Joined.{Extends};
-ghost use Rattle.ss_report.specs.WhyText.{event_why, job_why};
+ghost use Rattle.ss_report.specs.WhyText.{event_why, job_why, script_why};
 
 use crate::Memory;
 use crate::fault::Fault;
 use crate::put::put;
-use crate::why::{put_event_why, put_job_why};
+use crate::why::{put_event_why, put_job_why, put_script_why};
 use itoa::Buffer;
 use ss_events::EventFault;
+use ss_fail::ScriptFault;
 use ss_job::JobFault;
 
 const USAGE: &str =
     "usage: streamscope check|plain|play|run|gen SUBJECT [--workers N] [--failures F] [--schedule F] [--trace F]\n";
+
+const STORE_FAULT: &str = "streamscope: store fault\n";
 
 const OUTPUT_FAULT: &str = "streamscope: output fault\n";
 
@@ -26,11 +31,13 @@ pub fn fixed_line(fault: &Fault<'_>) -> Option<&'static str>
 {
     match fault {
         Fault::Usage => Some(USAGE),
+        Fault::Store => Some(STORE_FAULT),
         Fault::Output => Some(OUTPUT_FAULT),
         Fault::Memory => Some(OUT_OF_MEMORY),
         Fault::Job(_) | Fault::NotBuilt { .. } | Fault::Events { .. } | Fault::Inputs { .. } => {
             None
         }
+        Fault::Script { .. } | Fault::Full { .. } | Fault::Damaged { .. } => None,
     }
 }
 
@@ -60,7 +67,11 @@ fn write_fault(fault: &Fault<'_>, out: &mut Vec<u8>) -> Result<(), Memory>
         Fault::NotBuilt { vertex } => write_not_built(*vertex, out),
         Fault::Events { file, fault } => write_events(file, fault, out),
         Fault::Inputs { file } => put(out, &[b"streamscope: cannot read ", file.as_bytes(), b"\n"]),
+        Fault::Store => put(out, &[STORE_FAULT.as_bytes()]),
         Fault::Output => put(out, &[OUTPUT_FAULT.as_bytes()]),
+        Fault::Script { file, fault } => write_script(file, fault, out),
+        Fault::Full { name, most } => write_full(name, *most, out),
+        Fault::Damaged { name, n } => write_damaged(name, *n, out),
         Fault::Memory => put(out, &[OUT_OF_MEMORY.as_bytes()]),
     }
 }
@@ -104,7 +115,8 @@ fn write_not_built(vertex: u32, out: &mut Vec<u8>) -> Result<(), Memory>
 
 /// Appends the line of a row that is refused, or a part of it where memory runs out.
 fn write_events(file: &str, fault: &EventFault, out: &mut Vec<u8>) -> Result<(), Memory>
-    ensures line { OnOk result (out.new.items ≡ out.old.items ++ events_text file.now fault.now.row (event_why fault.now.why)) }
+    ensures line { OnOk result (out.new.items
+        ≡ out.old.items ++ events_text file.now fault.now.row (event_why fault.now.why)) }
     ensures part { OnErr result (Extends out.old.items out.new.items) }
 {
     put(
@@ -119,4 +131,58 @@ fn write_events(file: &str, fault: &EventFault, out: &mut Vec<u8>) -> Result<(),
     )?;
     put_event_why(&fault.why, out)?;
     put(out, &[b"\n"])
+}
+
+/// Appends the line of a script that is refused, or a part of it where memory runs out.
+fn write_script(file: &str, fault: &ScriptFault, out: &mut Vec<u8>) -> Result<(), Memory>
+    ensures line { OnOk result (out.new.items
+        ≡ out.old.items ++ script_text file.now fault.now.line (script_why fault.now.why)) }
+    ensures part { OnErr result (Extends out.old.items out.new.items) }
+{
+    put(
+        out,
+        &[
+            b"streamscope: script ",
+            file.as_bytes(),
+            b": line ",
+            Buffer::new().format(fault.line).as_bytes(),
+            b": ",
+        ],
+    )?;
+    put_script_why(&fault.why, out)?;
+    put(out, &[b"\n"])
+}
+
+/// Appends the line of a stream that is too long, or nothing.
+fn write_full(name: &str, most: u64, out: &mut Vec<u8>) -> Result<(), Memory>
+    ensures line { OnOk result (out.new.items ≡ out.old.items ++ full_text name.now most) }
+    ensures kept { OnErr result (out.new.items ≡ out.old.items) }
+{
+    put(
+        out,
+        &[
+            b"streamscope: stream ",
+            name.as_bytes(),
+            b" passes ",
+            Buffer::new().format(most).as_bytes(),
+            b" elements\n",
+        ],
+    )
+}
+
+/// Appends the line of stored bytes that are damaged, or nothing.
+fn write_damaged(name: &str, n: u64, out: &mut Vec<u8>) -> Result<(), Memory>
+    ensures line { OnOk result (out.new.items ≡ out.old.items ++ damaged_text name.now n) }
+    ensures kept { OnErr result (out.new.items ≡ out.old.items) }
+{
+    put(
+        out,
+        &[
+            b"streamscope: stored bytes damaged: ",
+            name.as_bytes(),
+            b" ",
+            Buffer::new().format(n).as_bytes(),
+            b"\n",
+        ],
+    )
 }

@@ -6,13 +6,16 @@ ghost use Rattle.ss_report.specs.StateText.{IsRowOf, name_of, names_text, op_tex
 use crate::Memory;
 use crate::put::put;
 use crate::state_row::StateRow;
+use crate::table_lines::{
+    put_inst, put_journal, put_mark, put_sink, put_up, write_snaps, write_stream,
+};
 use itoa::Buffer;
 use ss_fail::Role;
 use ss_job::Op;
 
 /// Appends a line of a report, with its newline, or nothing where memory runs out. `roles` are those of the job
 /// whose vertices the row numbers.
-pub fn state_line(row: &StateRow, roles: &[Role], out: &mut Vec<u8>) -> Result<(), Memory>
+pub fn state_line(row: &StateRow<'_>, roles: &[Role], out: &mut Vec<u8>) -> Result<(), Memory>
     requires { IsRowOf roles.now row.now }
     ensures line { OnOk result (out.new.items ≡ out.old.items ++ state_text roles.now row.now) }
     ensures kept { OnErr result (out.new.items ≡ out.old.items) }
@@ -28,7 +31,7 @@ pub fn state_line(row: &StateRow, roles: &[Role], out: &mut Vec<u8>) -> Result<(
 }
 
 /// Appends a line of a report, or a part of it where memory runs out.
-fn write_row(row: &StateRow, roles: &[Role], out: &mut Vec<u8>) -> Result<(), Memory>
+fn write_row(row: &StateRow<'_>, roles: &[Role], out: &mut Vec<u8>) -> Result<(), Memory>
     requires { IsRowOf roles.now row.now }
     ensures line { OnOk result (out.new.items ≡ out.old.items ++ state_text roles.now row.now) }
     ensures part { OnErr result (Extends out.old.items out.new.items) }
@@ -40,6 +43,30 @@ fn write_row(row: &StateRow, roles: &[Role], out: &mut Vec<u8>) -> Result<(), Me
             inputs,
             width,
         } => write_vertex(*v, *op, &inputs[..*width as usize], roles, out),
+        StateRow::Source { mark, .. } => {
+            write_stream(row, roles, out)?;
+            put_mark(*mark, out)
+        }
+        StateRow::Inner { snaps, .. } => {
+            write_stream(row, roles, out)?;
+            write_snaps(snaps, out)
+        }
+        StateRow::Up {
+            v,
+            r,
+            n,
+            next,
+            left,
+        } => {
+            put_inst(*v, *r, roles, out)?;
+            put_up(*n, *next, *left, out)
+        }
+        StateRow::Down { v, r } => {
+            put_inst(*v, *r, roles, out)?;
+            put(out, &[b" down\n"])
+        }
+        StateRow::Sink { k, taken } => put_sink(*k, *taken, roles, out),
+        StateRow::Journal { entries, since } => put_journal(*entries, *since, out),
         StateRow::Checked { count } => put(
             out,
             &[b"ok ", Buffer::new().format(*count).as_bytes(), b"\n"],
@@ -122,7 +149,7 @@ fn put_summary(k: u32, taken: u64, roles: &[Role], out: &mut Vec<u8>) -> Result<
 }
 
 /// The name of a vertex.
-fn name_of(roles: &[Role], v: u32) -> &[u8]
+pub(crate) fn name_of(roles: &[Role], v: u32) -> &[u8]
     requires { v < length roles.now }
     ensures { result.now ≡ name_of roles.now v }
 {

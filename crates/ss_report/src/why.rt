@@ -2,12 +2,13 @@
 ghost use Rattle.std.specs.Prelude.{◌≡◌, ◌++◌, OnOk, OnErr};
 ghost use Rattle.std.specs.Fmt.{decimal};
 ghost use Rattle.ss_job.specs.Format.{key_of};
-ghost use Rattle.ss_report.specs.WhyText.{event_why, job_why, range_text};
+ghost use Rattle.ss_report.specs.WhyText.{event_why, job_why, range_text, script_why};
 
 use crate::Memory;
 use crate::put::put;
 use itoa::Buffer;
 use ss_events::EventWhy;
+use ss_fail::ScriptWhy;
 use ss_job::{FieldName, JobWhy};
 
 /// Appends why the bytes of a job file say no job, or nothing.
@@ -117,6 +118,20 @@ pub(crate) fn put_event_why(why: &EventWhy, out: &mut Vec<u8>) -> Result<(), Mem
     }
 }
 
+/// Appends why a line of a script is refused, or nothing.
+pub(crate) fn put_script_why(why: &ScriptWhy, out: &mut Vec<u8>) -> Result<(), Memory>
+    ensures text { OnOk result (out.new.items ≡ out.old.items ++ script_why why.now) }
+    ensures kept { OnErr result (out.new.items ≡ out.old.items) }
+{
+    match why {
+        ScriptWhy::BadWord => put(out, &[b"bad word"]),
+        ScriptWhy::BadCount => put(out, &[b"bad number of words"]),
+        ScriptWhy::UnknownName => put(out, &[b"unknown name"]),
+        ScriptWhy::BadNumber => put(out, &[b"bad number"]),
+        ScriptWhy::NoReplica => put(out, &[b"no such replica"]),
+    }
+}
+
 /// Appends two times, each behind a text, or nothing.
 fn put_times(
     before: &[u8],
@@ -125,7 +140,8 @@ fn put_times(
     second: u64,
     out: &mut Vec<u8>,
 ) -> Result<(), Memory>
-    ensures text { OnOk result (out.new.items ≡ out.old.items ++ (before.now ++ decimal first ++ between.now ++ decimal second)) }
+    ensures text { OnOk result (out.new.items
+        ≡ out.old.items ++ (before.now ++ decimal first ++ between.now ++ decimal second)) }
     ensures kept { OnErr result (out.new.items ≡ out.old.items) }
 {
     put(

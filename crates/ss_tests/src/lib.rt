@@ -1,24 +1,15 @@
-//! The tests of the libraries, a module for each. A crate with tests is proved twice, with them and without, so they
-//! stand apart from what they test. A test calls what its library gives to all, and nothing else.
+//! The tests of the libraries of jobs, reports and words, a module for each. A crate with tests is proved twice, with
+//! them and without, so they stand apart from what they test. A test calls what its library gives to all, and nothing
+//! else.
 #![tactic(auto)]
 
 #[cfg(test)]
-mod elem;
-#[cfg(test)]
-mod events;
-#[cfg(test)]
-mod expr;
-#[cfg(test)]
-mod fail;
-#[cfg(test)]
 mod job;
-#[cfg(test)]
-mod outside;
 #[cfg(test)]
 mod report;
 #[cfg(test)]
-mod turns;
+mod state_rows;
 #[cfg(test)]
-mod water;
+mod trace;
 #[cfg(test)]
 mod words;

@@ -1,7 +1,4 @@
-use ss_outside::{
-    Depot, FileInputs, FileOutputs, InputFault, Inputs, MemDepot, MemInputs, MemOutputs, Outputs,
-    PutFault,
-};
+use ss_outside::{InputFault, Inputs, MemInputs, MemOutputs, Outputs, PutFault};
 use std::test::Fail;
 
 /// Each put has the text `abc`. The second is the one that fails.
@@ -27,6 +24,8 @@ fn a_listed_put_keeps_a_prefix_and_raises_the_count(rt: HostRuntime) -> Result<(
         assert_eq!(rt; outputs.bytes("out"), left.as_bytes());
         assert_eq!(rt; outputs.bytes("!"), b"x".as_slice());
         assert_eq!(rt; outputs.bytes("-"), b"".as_slice());
+        assert_eq!(rt; outputs.put("-", b""), Ok(()));
+        assert!(rt; outputs.was_put_to("-") && !outputs.was_put_to("other"));
     }
     Ok(())
 }
@@ -52,27 +51,5 @@ fn a_read_fails_where_it_is_listed_or_not_held(rt: HostRuntime) -> Result<(), Fa
         assert_eq!(rt; out.as_slice(), left.as_bytes());
         assert_eq!(rt; inputs.faults(), faults);
     }
-    Ok(())
-}
-
-/// A folder and a name that isn't there: both fail, and each raises the count.
-#[test]
-fn real_files_that_cannot_be_used_fail(rt: HostRuntime) -> Result<(), Fail> {
-    let mut inputs = FileInputs::new(&rt);
-    let mut out = b"before".to_vec(rt.alloc())?;
-    assert_eq!(rt; inputs.read(".", &mut out), Err(InputFault::Failed));
-    assert_eq!(rt; inputs.faults(), 1);
-    assert_eq!(rt;
-        inputs.read("no/such/file", &mut out),
-        Err(InputFault::Failed)
-    );
-    assert_eq!(rt; inputs.faults(), 2);
-    assert_eq!(rt; out.as_slice(), b"before".as_slice());
-    let mut outputs = FileOutputs::new(&rt);
-    assert_eq!(rt; outputs.put(".", b"x"), Err(PutFault::Failed));
-    assert_eq!(rt; outputs.faults(), 1);
-    assert_eq!(rt; outputs.put("no/such/file", b"x"), Err(PutFault::Failed));
-    assert_eq!(rt; outputs.faults(), 2);
-    assert_eq!(rt; MemDepot::new().faults(), 0);
     Ok(())
 }

@@ -35,7 +35,8 @@ impl Member for Counter {
 
 // Counters at the places 0 and 1.
 fn counters(alloc: Global, first: u64, second: u64) -> Result<Vec<Counter>, AllocError>
-    ensures { IfOk result (λ v. v.items ≡ record { place = 0; count = first } ∷ record { place = 1; count = second } ∷ []) }
+    ensures { IfOk result (λ v. v.items
+        ≡ record { place = 0; count = first } ∷ record { place = 1; count = second } ∷ []) }
 {
     let mut counters = Vec::new(alloc);
     counters.push(Counter {
@@ -99,11 +100,13 @@ fn count_up_beside<R: Threads>(
     join(
         rt,
         || -> (Pass<Counter>, u64)
-            requires { (turns.now.of.slots ≡ 2) × IsPassOf turns.now first × (first.view.has ≡ []) × (first.view.plan ≡ Some tt) }
+            requires { (turns.now.of.slots ≡ 2) × IsPassOf turns.now first
+                × (first.view.has ≡ []) × (first.view.plan ≡ Some tt) }
             ensures { IsPassOf turns.entry.now result.0 × (result.0.view.has ≡ []) × (result.1 ≤ 20000) }
         { count_up(turns, first, 20000) },
         || -> (Pass<Counter>, u64)
-            requires { (turns.now.of.slots ≡ 2) × IsPassOf turns.now second × (second.view.has ≡ []) × (second.view.plan ≡ Some tt) }
+            requires { (turns.now.of.slots ≡ 2) × IsPassOf turns.now second
+                × (second.view.has ≡ []) × (second.view.plan ≡ Some tt) }
             ensures { IsPassOf turns.entry.now result.0 × (result.0.view.has ≡ []) × (result.1 ≤ 20000) }
         { count_up(turns, second, 20000) },
     )
