@@ -1,0 +1,16 @@
+pub mod Numbers
+pub mod State
+pub mod Tails
+pub mod LowWater
+pub mod Journal
+pub mod Acts
+pub mod Step
+pub mod Rule
+pub mod IsNumbers
+pub mod Wanted
+pub mod Joint
+pub mod Laws
+pub mod MeaningLaws
+pub mod NumbersOfMeaning
+pub mod Examples
+pub mod WrongReadings
