@@ -1,0 +1,22 @@
+ghost use Rattle.ss_codec.specs.Laws.{FramesAreReadAgain, NoFrameBeginsAnother, NoRecordBeginsAnother};
+ghost use Rattle.ss_codec.specs.Laws.{RecordsAreReadAgain};
+
+/// A record is read as its element, so what was put is read again.
+pub fn records_are_read_again()
+    ensures { RecordsAreReadAgain }
+{}
+
+/// No record is a proper part of another from the front on, so a record that lacks its end isn't taken for one.
+pub fn no_record_begins_another()
+    ensures { NoRecordBeginsAnother }
+{}
+
+/// The code of a frame is read as the frame, where what stands at and above its width is 0.
+pub fn frames_are_read_again()
+    ensures { FramesAreReadAgain }
+{}
+
+/// No frame's code is a proper part of another from the front on.
+pub fn no_frame_begins_another()
+    ensures { NoFrameBeginsAnother }
+{}

@@ -1,0 +1,9 @@
+//! The tail of a stream: its newest elements, held in memory, which may be lost before they are stored.
+#![tactic(auto)]
+
+mod answers;
+mod tail;
+
+pub use answers::{Shown, Wrote};
+pub use std::alloc::AllocError as Memory;
+pub use tail::Tail;
