@@ -1,0 +1,4 @@
+pub mod RowReads
+pub mod Spellings
+pub mod ReadAgain
+pub mod StateImages

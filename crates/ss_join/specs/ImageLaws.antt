@@ -1,0 +1,41 @@
+-- What holds of images.
+use Rattle.std.specs.Prelude.{◌≡◌, ℕ, ◌+◌, ◌^◌, ◌<◌, true, List, length, slice_index, All, Some, Ok, FitsSigned}
+use Rattle.std.specs.Int.{w64}
+use Rattle.ss_elem.specs.Key.{IsKeyNumber}
+use Rattle.ss_elem.specs.Validity.{next_bound}
+use Rattle.ss_elem.specs.declared.element.Event.{Event}
+use Rattle.ss_elem.specs.declared.element.Element.TheVariants.{Row}
+use Rattle.ss_meaning.specs.Merge.{Arrival}
+use Rattle.ss_join.specs.Images.{image}
+use Rattle.ss_join.specs.ImageTests.{is_open_span, image_read}
+use Rattle.ss_join.specs.States.{Sides, StandsAfter, AreBoundsAfter}
+
+-- the row is one of the program's type
+pub record IsHeld (row : Event) : Type 0 where
+  pub is_key : IsKeyNumber row.key
+  pub a : FitsSigned w64 row.a
+  pub b : FitsSigned w64 row.b
+
+-- a row may stand in an image where the other input has this bound: it passes the tests of its span
+pub record MayStand (bound : ℕ) (row : Event) : Type 0 where
+  pub passes : is_open_span bound row.start row.end ≡ true
+  pub is_held : IsHeld row
+
+-- rows that may stand in an image are read from their image
+abbrev pub SidesAreReadAgain : Type 0
+SidesAreReadAgain =
+    (bounds : List ℕ) (sides : Sides) → length sides.left + length sides.right < 2 ^ 32
+    → All (MayStand (slice_index bounds 1)) sides.left → All (MayStand (slice_index bounds 0)) sides.right
+    → image_read bounds (image sides) ≡ Ok sides
+
+-- a row of the program's type that may follow in a stream somewhere
+pub record IsTaken (row : Event) : Type 0 where
+  pub follows : (bound : ℕ) × (next_bound bound (Row row) ≡ Some bound)
+  pub is_held : IsHeld row
+
+-- what a join remembers after any p is read from its image, where its rows may follow in streams
+abbrev pub StatesAreReadAgain : Type 0
+StatesAreReadAgain =
+    (sides : Sides) (p : List Arrival) (bounds : List ℕ) → StandsAfter sides p → AreBoundsAfter p bounds
+    → All IsTaken sides.left → All IsTaken sides.right → length sides.left + length sides.right < 2 ^ 32
+    → image_read bounds (image sides) ≡ Ok sides

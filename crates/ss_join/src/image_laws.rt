@@ -1,0 +1,19 @@
+ghost use Rattle.ss_join.specs.ImageExamples.{OneRowSpelled, FiftySixBytes, NegativeSpelled, OneRowRead};
+ghost use Rattle.ss_join.specs.ImageExamples.{OneByteFewer, EndedRow};
+ghost use Rattle.ss_join.specs.ImageLaws.{SidesAreReadAgain, StatesAreReadAgain};
+
+/// Images of small joins, and what bytes near them say.
+pub fn image_examples()
+    ensures one_row { OneRowSpelled }
+    ensures fifty_six_bytes { FiftySixBytes }
+    ensures negative { NegativeSpelled }
+    ensures read { OneRowRead }
+    ensures one_byte_fewer { OneByteFewer }
+    ensures ended { EndedRow }
+{}
+
+/// What a join remembers is read from its image, where its rows may follow in streams.
+pub fn images_are_read_again()
+    ensures sides { SidesAreReadAgain }
+    ensures states { StatesAreReadAgain }
+{}

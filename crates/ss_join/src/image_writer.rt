@@ -1,0 +1,76 @@
+ghost use Rattle.std.specs.Prelude.{◌≡◌, ◌+◌, ◌*◌, ◌^◌, ◌<◌, ◌≤◌, ◌++◌, length, OnOk, OnErr};
+ghost use Rattle.std.specs.Prelude.{vec_len, vec_capacity};
+ghost use Rattle.std.specs.List.{flat_map};
+ghost use Rattle.ss_join.specs.Images.{row_bytes, image};
+
+use crate::numbers::{bytes_of_i64, bytes_of_key, bytes_of_u32, bytes_of_u64};
+use ss_elem::Event;
+use std::alloc::AllocError;
+
+const COUNTS_LEN: usize = 8;
+
+const ROW_LEN: usize = 48;
+
+/// Appends the image of the two sides. Its room is reserved first, so that it is appended whole or not at all.
+pub(crate) fn put_image(
+    out: &mut Vec<u8>,
+    left: &[Event],
+    right: &[Event],
+) -> Result<(), AllocError>
+    requires { length left.now + length right.now < 2 ^ 32 }
+    ensures ok { OnOk result (out.new.items ≡ out.old.items ++ image (record { left = left.now; right = right.now })) }
+    ensures err { OnErr result (out.new.items ≡ out.old.items) }
+{
+    out.reserve(COUNTS_LEN + ROW_LEN * (left.len() + right.len()))?;
+    put(out, &bytes_of_u32(left.len() as u32));
+    put(out, &bytes_of_u32(right.len() as u32));
+    put_rows(out, left);
+    put_rows(out, right);
+    Ok(())
+}
+
+fn put_rows(out: &mut Vec<u8>, rows: &[Event])
+    requires { vec_len out.old + 48 * length rows.now ≤ vec_capacity out.old }
+    ensures items { out.new.items ≡ out.old.items ++ flat_map row_bytes rows.now }
+    ensures len { vec_len out.new ≡ vec_len out.old + 48 * length rows.now }
+    ensures capacity { vec_capacity out.old ≤ vec_capacity out.new }
+{
+    for row in rows {
+        put_row(out, row);
+    }
+}
+
+fn put_row(out: &mut Vec<u8>, row: &Event)
+    requires { vec_len out.old + 48 ≤ vec_capacity out.old }
+    ensures items { out.new.items ≡ out.old.items ++ row_bytes row.now }
+    ensures len { vec_len out.new ≡ vec_len out.old + 48 }
+    ensures capacity { vec_capacity out.old ≤ vec_capacity out.new }
+{
+    put(out, &bytes_of_u64(row.start));
+    put(out, &bytes_of_u64(row.end));
+    put(out, &bytes_of_key(&row.key));
+    put(out, &bytes_of_i64(first_value(row)));
+    put(out, &bytes_of_i64(second_value(row)));
+}
+
+fn first_value(row: &Event) -> i64
+    ensures { result ≡ row.now.a }
+{
+    row.a
+}
+
+fn second_value(row: &Event) -> i64
+    ensures { result ≡ row.now.b }
+{
+    row.b
+}
+
+/// Appends bytes for which there is room.
+fn put(out: &mut Vec<u8>, bytes: &[u8])
+    requires { vec_len out.old + length bytes.now ≤ vec_capacity out.old }
+    ensures items { out.new.items ≡ out.old.items ++ bytes.now }
+    ensures len { vec_len out.new ≡ vec_len out.old + length bytes.now }
+    ensures capacity { vec_capacity out.old ≤ vec_capacity out.new }
+{
+    out.extend_from_slice(bytes).unwrap();
+}

@@ -1,0 +1,131 @@
+ghost use Rattle.std.specs.Prelude.{◌≡◌, ◌+◌, ◌^◌, ◌<◌, ◌++◌, [], length, OnOk, OnErr, IfOk, IfErr, Ok};
+ghost use Rattle.ss_join.specs.Images.{image};
+ghost use Rattle.ss_join.specs.ImageTests.{image_read, Fails};
+ghost use Rattle.ss_join.specs.States.{StandsAfter, StepsFromAll, with_row, without_ended, given_at};
+
+use crate::image_fault::ImageFault;
+use crate::image_reader::read_image;
+use crate::image_writer::put_image;
+use crate::side::{forget, take_row};
+use ss_elem::{Element, Event, Out};
+use ss_meaning::join_sides_follow;
+use std::alloc::{AllocError, Global};
+use std::marker::Model;
+
+/// A temporal join: for two rows of its two inputs with one key and overlapping spans it gives the time that they have
+/// in common. Input 0 is the left one.
+///
+/// It remembers of each input the rows that end above the other input's bound, in the order of their arrival.
+#[derive(Drop)]
+pub struct Join {
+    left: Vec<Event>,
+    right: Vec<Event>,
+}
+
+impl Model for Join {
+    ghost use Rattle.ss_join.specs.States.{Sides};
+
+    ghost Value = { Sides };
+
+    ghost view = { λ j. record { left = j.left.items; right = j.right.items } };
+}
+
+impl Join {
+    /// A join to which nothing has arrived. It takes no memory.
+    pub fn new(alloc: Global) -> Join
+        ensures { StandsAfter result [] }
+    {
+        Join {
+            left: Vec::new(alloc),
+            right: Vec::new(alloc),
+        }
+    }
+
+    /// Takes the next element, and appends the rows that the join gives at it. `bounds` are those of the inputs after
+    /// the element, in their order.
+    ///
+    /// An error is want of memory.
+    pub fn step(
+        &mut self,
+        input: u32,
+        x: &Element,
+        bounds: [u64; 8],
+        out: &mut Out,
+    ) -> Result<(), AllocError>
+        requires { input < 2 }
+        ensures ok { OnOk result (StepsFromAll self.old self.new out.old.elements out.new.elements input x.now bounds) }
+        ensures err { OnErr result (self.new ≡ self.old) }
+        ensures err_out { OnErr result (out.new.elements ≡ out.old.elements) }
+    {
+        join_sides_follow();
+        match x {
+            Element::Row(row) => self.take_row(input, row, bounds, out),
+            Element::Cti(_) => {
+                self.forget_ended(input, bounds);
+                Ok(())
+            }
+            Element::End => {
+                self.forget_ended(input, bounds);
+                Ok(())
+            }
+        }
+    }
+
+    /// How many rows the join remembers.
+    pub fn held(&self) -> u64
+        ensures { result ≡ length self.now.left + length self.now.right }
+    {
+        self.left.len() as u64 + self.right.len() as u64
+    }
+
+    /// Appends the image of the rows that the join remembers.
+    ///
+    /// An error is want of memory.
+    pub fn image(&self, out: &mut Vec<u8>) -> Result<(), AllocError>
+        requires { length self.now.left + length self.now.right < 2 ^ 32 }
+        ensures ok { OnOk result (out.new.items ≡ out.old.items ++ image self.now) }
+        ensures err { OnErr result (out.new.items ≡ out.old.items) }
+    {
+        put_image(out, &self.left, &self.right)
+    }
+
+    /// The join whose image these bytes are, where the inputs have these bounds.
+    pub fn of_image(alloc: Global, bounds: [u64; 8], bytes: &[u8]) -> Result<Join, ImageFault>
+        ensures ok { IfOk result (λ join. image_read bounds bytes.now ≡ Ok join) }
+        ensures fault { IfErr result (λ fault. Fails fault (image_read bounds bytes.now)) }
+    {
+        let (left, right) = read_image(alloc, bounds, bytes)?;
+        Ok(Join { left, right })
+    }
+
+    /// Gives what the row joins, and keeps it.
+    fn take_row(
+        &mut self,
+        input: u32,
+        row: &Event,
+        bounds: [u64; 8],
+        out: &mut Out,
+    ) -> Result<(), AllocError>
+        ensures kept { OnOk result (self.new ≡ with_row input row.now bounds self.old) }
+        ensures given { OnOk result (out.new.elements ≡ out.old.elements ++ given_at input row.now self.old) }
+        ensures err { OnErr result (self.new ≡ self.old) }
+        ensures err_out { OnErr result (out.new.elements ≡ out.old.elements) }
+    {
+        if input == 0 {
+            take_row(input, row, &mut self.left, &self.right, bounds[1], out)
+        } else {
+            take_row(input, row, &mut self.right, &self.left, bounds[0], out)
+        }
+    }
+
+    /// Forgets the rows of the other input that end at this input's bound or before it.
+    fn forget_ended(&mut self, input: u32, bounds: [u64; 8])
+        ensures { self.new ≡ without_ended input bounds self.old }
+    {
+        if input == 0 {
+            forget(&mut self.right, bounds[0]);
+        } else {
+            forget(&mut self.left, bounds[1]);
+        }
+    }
+}

@@ -1,0 +1,11 @@
+pub mod Joins
+pub mod Places
+pub mod Walks
+pub mod Rises
+pub mod Arrivals
+pub mod Spans
+pub mod Passing
+pub mod EntryReads
+pub mod Spellings
+pub mod ReadAgain
+pub mod StateImages

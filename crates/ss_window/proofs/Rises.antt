@@ -1,0 +1,55 @@
+-- Entries in order are cut at a bound in one place.
+use Rattle.std.proofs.Common.{◌≡◌, ℕ, zero, suc, ◌+◌, ◌-◌, ◌<◌, Bool, true, false, cond, nat_lt, nat_le, List, [], ◌∷◌, ◌++◌, length, take, drop, filter, refl, sym, ap, ◌∙◌, arith, leb-true, leb-false, lt-ltb, le-ltb}
+use Rattle.std.proofs.lemmas.Bool.{lt-leb}
+use Rattle.std.proofs.lemmas.List.{take_at, length-drop}
+use Rattle.std.specs.List.{AllByRecursion, prefix_len}
+use Rattle.ss_meaning.specs.Entries.{WindowEntry}
+use Rattle.ss_meaning.specs.EntryLists.{IsBehind, AreInOrder}
+
+one_more : (n : ℕ) → 1 + n ≡ suc n
+one_more n = omega arith
+
+-- whether an entry is closed at a bound
+abbrev pub is_closed : ℕ → WindowEntry → Bool
+is_closed low e = nat_le e.end low
+
+none_closed : (low : ℕ) (es : List WindowEntry) → AllByRecursion (λ (e : WindowEntry). low < e.end) es → (filter (is_closed low) es ≡ []) × (filter (λ e. nat_lt low e.end) es ≡ es)
+none_closed low [] h = (refl, refl)
+none_closed low (e ∷ es) h =
+    let rest = none_closed low es h.1 in (
+      ap (λ b. cond b (e ∷ filter (is_closed low) es) (filter (is_closed low) es)) (lt-leb e.end low h.0) ∙ rest.0,
+      ap (λ b. cond b (e ∷ filter (λ e. nat_lt low e.end) es) (filter (λ e. nat_lt low e.end) es)) (lt-ltb low e.end h.0) ∙ ap (λ ys. e ∷ ys) rest.1,
+    )
+
+later : (low : ℕ) (e : WindowEntry) (es : List WindowEntry) → low < e.end → AllByRecursion (IsBehind e.end e.key) es → AllByRecursion (λ (x : WindowEntry). low < x.end) es
+later low e [] h k = tt
+later low e (x ∷ xs) h k = (omega (arith, h, k.0.ends), later low e xs h k.1)
+
+pub cut : (low : ℕ) (es : List WindowEntry) → AreInOrder es
+    → (take (prefix_len (is_closed low) es) es ≡ filter (is_closed low) es) × (drop (prefix_len (is_closed low) es) es ≡ filter (λ e. nat_lt low e.end) es)
+cut low [] h = (refl, refl)
+cut low (e ∷ es) h = by_test (nat_le e.end low) refl (cut low es h.1)
+  where
+    by_test : (b : Bool) → nat_le e.end low ≡ b
+        → (take (prefix_len (is_closed low) es) es ≡ filter (is_closed low) es) × (drop (prefix_len (is_closed low) es) es ≡ filter (λ e. nat_lt low e.end) es)
+        → (take (cond b (1 + prefix_len (is_closed low) es) 0) (e ∷ es) ≡ cond b (e ∷ filter (is_closed low) es) (filter (is_closed low) es))
+        × (drop (cond b (1 + prefix_len (is_closed low) es) 0) (e ∷ es) ≡ filter (λ e. nat_lt low e.end) (e ∷ es))
+    by_test true t rest = (
+      ap (λ n. take n (e ∷ es)) (one_more (prefix_len (is_closed low) es)) ∙ ap (λ ys. e ∷ ys) rest.0,
+      ap (λ n. drop n (e ∷ es)) (one_more (prefix_len (is_closed low) es)) ∙ (rest.1
+          ∙ sym (ap (λ b. cond b (e ∷ filter (λ e. nat_lt low e.end) es) (filter (λ e. nat_lt low e.end) es)) (le-ltb low e.end (leb-true e.end low t)))),
+    )
+    by_test false t rest =
+        let above = leb-false e.end low t in
+        let none = none_closed low (e ∷ es) (above, later low e es above h.0) in (
+          sym (none_closed low es (later low e es above h.0)).0,
+          sym none.1,
+        )
+
+pub in_order-drop : (n : ℕ) (es : List WindowEntry) → AreInOrder es → AreInOrder (drop n es)
+in_order-drop zero es h = h
+in_order-drop (suc n) [] h = tt
+in_order-drop (suc n) (e ∷ es) h = in_order-drop n es h.1
+
+pub rotated : (n : ℕ) (es : List WindowEntry) → take (length es - n) (drop n es ++ take n es) ≡ drop n es
+rotated n es = take_at (drop n es) (take n es) (length es - n) (length-drop n es)
