@@ -1,0 +1,13 @@
+pub mod Arriving
+pub mod Beginnings
+pub mod BuiltVertices
+pub mod Cuts
+pub mod Everything
+pub mod Gathering
+pub mod Keeping
+pub mod KeyOrder
+pub mod Meanings
+pub mod Reading
+pub mod SourcePlaces
+pub mod Vertices
+pub mod WindowSteps
