@@ -1,8 +1,9 @@
+pub mod Actions
 pub mod Ends
+pub mod NameTexts
 pub mod Puts
-pub mod Runs
-pub mod Steps
 pub mod Streams
-pub mod Told
+pub mod Steps
 pub mod Vertices
+pub mod Ways
 pub mod Wrote

@@ -1,16 +1,11 @@
 -- What is put for the vertices of a job, one after the other.
-use Rattle.std.proofs.Common.{◌≡◌, ℕ, zero, suc, ◌+◌, ◌<◌, ◌⊎◌, inl, inr, List, [], ◌∷◌, ◌++◌, length, refl, sym, ap, ◌∙◌, subst, append_assoc, add-one, arith}
+use Rattle.std.proofs.Common.{◌≡◌, ℕ, zero, suc, ◌+◌, ◌<◌, ◌⊎◌, inl, inr, List, [], ◌∷◌, ◌++◌, length, refl, sym, ap, ◌∙◌, subst, append_assoc, add-one, arith, false, codes}
 use Rattle.std.proofs.lemmas.List.{append-nil}
-use Rattle.ss_elem.specs.declared.element.Element.{Element}
 use Rattle.ss_job.specs.JobText.{JobText}
 use Rattle.ss_job.specs.Sound.{IsJob}
 use Rattle.ss_water.specs.declared.node.Node.{Node}
-use Rattle.std.proofs.Common.{false, codes}
-use Rattle.ss_outside.specs.Faults.{Rose}
-use Rattle.ss_outside.specs.Told.{AppendsPart, Spares}
-use Rattle.streamscope.proofs.Puts.{PutsPart-one}
-use Rattle.streamscope.specs.Output.{shows_sink, summary_puts, summary_text, vertex_lines, line_of_vertex, puts_below, sink_puts, summary_lines, summary_line}
-use Rattle.streamscope.specs.Puts.{Put, put_of, PutsPart, Written}
+use Rattle.streamscope.specs.Output.{shows_sink, summary_puts, summary_text, vertex_lines, line_of_vertex, puts_below, sink_puts, summary_lines, summary_line, Streams, sink_file, all_sink_puts}
+use Rattle.streamscope.specs.Puts.{Put, put_of}
 
 -- the count of a job's graph is that of its vertices
 pub count_is : (job : JobText) (graph : List Node) (n : ℕ) → IsJob job → graph ≡ job.graph → n ≡ length graph → n ≡ length job.vertices
@@ -19,10 +14,10 @@ count_is job graph n sound same counted = counted ∙ ap (λ (nodes : List Node)
 pub vertex_lines-more : (job : JobText) (v : ℕ) → vertex_lines job (v + 1) ≡ vertex_lines job v ++ line_of_vertex job v
 vertex_lines-more job v = rw add-one refl
 
-pub puts_below-more : (job : JobText) (streams : List (List Element)) (v : ℕ) → puts_below job streams (v + 1) ≡ puts_below job streams v ++ sink_puts job streams v
+pub puts_below-more : (job : JobText) (streams : Streams) (v : ℕ) → puts_below job streams (v + 1) ≡ puts_below job streams v ++ sink_puts job streams v
 puts_below-more job streams v = rw add-one refl
 
-pub summary_lines-more : (job : JobText) (streams : List (List Element)) (v : ℕ) → summary_lines job streams (v + 1) ≡ summary_lines job streams v ++ summary_line job streams v
+pub summary_lines-more : (job : JobText) (streams : Streams) (v : ℕ) → summary_lines job streams (v + 1) ≡ summary_lines job streams v ++ summary_line job streams v
 summary_lines-more job streams v = rw add-one refl
 
 -- the last or an earlier one
@@ -32,7 +27,7 @@ last_or_earlier zero (suc n) h = inr (omega arith)
 last_or_earlier (suc v) zero h = absurd (omega (arith, h))
 last_or_earlier (suc v) (suc n) h = elim (last_or_earlier v n (omega (arith, h))) [ inl e ↦ inl (ap suc e) | inr less ↦ inr (omega (arith, less)) ]
 
-pub puts_below-split : (job : JobText) (streams : List (List Element)) (v n : ℕ) → v < n →
+pub puts_below-split : (job : JobText) (streams : Streams) (v n : ℕ) → v < n →
     (rest : List Put) × (puts_below job streams n ≡ (puts_below job streams v ++ sink_puts job streams v) ++ rest)
 puts_below-split job streams v zero h = absurd (omega (arith, h))
 puts_below-split job streams v (suc n) h = elim (last_or_earlier v n h) [
@@ -43,12 +38,5 @@ puts_below-split job streams v (suc n) h = elim (last_or_earlier v n h) [
 
 -- ---- the summary
 
-pub summary_puts-one : (job : JobText) (streams : List (List Element)) → shows_sink job ≡ false → summary_puts job streams ≡ put_of (codes "-") (summary_text job streams) ∷ []
+pub summary_puts-one : (job : JobText) (streams : Streams) → shows_sink job ≡ false → summary_puts job streams ≡ put_of (codes "-") (summary_text job streams) ∷ []
 summary_puts-one job streams h = rw h refl
-
-pub summary-failed : (a b : Written) (m k : ℕ) (job : JobText) (streams : List (List Element)) (text : List ℕ) → shows_sink job ≡ false → text ≡ summary_text job streams →
-    AppendsPart a.bytes b.bytes (codes "-") text → Spares a.names b.names (codes "-") → Rose m k → PutsPart a b (summary_puts job streams) × Rose m k
-summary-failed a b m k job streams text hidden is part spares rose = (
-  subst (PutsPart a b) (sym (summary_puts-one job streams hidden)) (PutsPart-one a b (codes "-") (summary_text job streams) (subst (AppendsPart a.bytes b.bytes (codes "-")) is part) spares),
-  rose,
-)

@@ -5,7 +5,6 @@ use Rattle.std.specs.Option.{option_map}
 use Rattle.ss_job.specs.JobText.{JobText, VertexText, op_of_vertex}
 use Rattle.ss_job.specs.declared.op.Op.{Op}
 use Rattle.streamscope.specs.Output.{shows, writes_to_output}
-use Rattle.streamscope.specs.Work.{first_operator, is_operator}
 
 -- a list at a place within it
 pub record IsAt {A : Type 0} (xs : List A) (v : ℕ) (x : A) : Type 0 where
@@ -28,12 +27,6 @@ item_at {A = A} (x ∷ xs) (suc v) h =
 
 pub op_at : (xs : List VertexText) (v : ℕ) (x : VertexText) (op : Op) → slice_get xs v ≡ Some x → option_map op_of_vertex (slice_get xs v) ≡ Some op → op_of_vertex x ≡ op
 op_at xs v x op here is = let known : option_map op_of_vertex (slice_get xs v) ≡ Some (op_of_vertex x) = ap (option_map op_of_vertex) here in cc
-
-pub operator_here : (v : ℕ) (x : VertexText) (xs : List VertexText) → is_operator x ≡ true → first_operator v (x ∷ xs) ≡ Some v
-operator_here v x xs h = rw h refl
-
-pub operator_later : (v : ℕ) (x : VertexText) (xs : List VertexText) → is_operator x ≡ false → first_operator v (x ∷ xs) ≡ first_operator (v + 1) xs
-operator_later v x xs h = rw h refl
 
 pub shows-at : (job : JobText) (v : ℕ) (x : VertexText) → slice_get job.vertices v ≡ Some x → shows job v ≡ writes_to_output x
 shows-at job v x here = rw here refl

@@ -1,38 +1,92 @@
 -- How puts end that are made one after the other.
-use Rattle.std.proofs.Common.{◌≡◌, ℕ, ◌+◌, ◌≤◌, ◌<◌, List, [], ◌∷◌, ◌++◌, length, take, drop, get_or, Result, Ok, Err, sym, ap, ◌∙◌, subst, arith}
+use Rattle.std.proofs.Common.{◌≡◌, ℕ, ◌+◌, ◌≤◌, ◌<◌, List, [], ◌∷◌, ◌++◌, length, take, drop, get_or, Result, Ok, Err, refl, sym, ap, ◌∙◌, subst, append_assoc, arith}
 use Rattle.std.proofs.lemmas.List.{take_more, take-append-drop, map-append}
 use Rattle.ss_elem.specs.declared.element.Element.{Element}
 use Rattle.ss_elem.specs.Line.{line_of}
-use Rattle.ss_outside.specs.Faults.{Rose}
-use Rattle.ss_outside.specs.Told.{Same, SameNames, Spares, Appends, AppendsPart}
+use Rattle.ss_outside.specs.Told.{OutputsTold, Puts}
 use Rattle.ss_outside.specs.declared.outputs.PutFault.{PutFault}
 use Rattle.ss_outside.specs.declared.outputs.PutFault.TheVariants.{Failed, Memory}
-use Rattle.streamscope.specs.Puts.{Put, put_of, lines_to, Puts, Wrote, Written}
-use Rattle.streamscope.proofs.Puts.{Puts-append, Puts-one, PutsPart-longer, PutsPart-behind, PutsPart-one, PutsFirst-none, PutsFirst-longer, PutsFirst-behind}
+use Rattle.streamscope.specs.Puts.{Put, put_of, first_of, lines_to, Went, WentWhole, PutFailed, StoppedBetween, Wrote}
+use Rattle.streamscope.proofs.Puts.{rose-earlier, Went-nil, Went-one, Went-append, WentWhole-one, WentWhole-append}
 
-pub rose-earlier : (m n k : ℕ) → m ≤ n → Rose n k → Rose m k
-rose-earlier m n k h rose = let r = rose in omega (arith, r)
+-- ---- behind puts that stand, and before others that were to follow
+
+pub failed-behind : (a b c : OutputsTold) (p q : List Put) → WentWhole a b p → PutFailed b c q → PutFailed a c (p ++ q)
+failed-behind a b c p q h k = record {
+  before = p ++ k.before;
+  failed = k.failed;
+  after = k.after;
+  split = ap (λ (puts : List Put). p ++ puts) k.split ∙ sym (append_assoc p k.before (k.failed ∷ k.after));
+  kept = k.kept;
+  went = subst (Went a c) (sym (append_assoc p k.before (first_of k.kept k.failed ∷ [])))
+      (Went-append a b c p (k.before ++ first_of k.kept k.failed ∷ []) h.went k.went);
+  rose = rose-earlier a.faults b.faults c.faults h.went.faults k.rose;
+}
+
+pub failed-longer : (a b : OutputsTold) (p q : List Put) → PutFailed a b p → PutFailed a b (p ++ q)
+failed-longer a b p q k = record {
+  before = k.before;
+  failed = k.failed;
+  after = k.after ++ q;
+  split = ap (λ (puts : List Put). puts ++ q) k.split ∙ append_assoc k.before (k.failed ∷ k.after) q;
+  kept = k.kept;
+  went = k.went;
+  rose = k.rose;
+}
+
+pub between-behind : (a b c : OutputsTold) (p q : List Put) → WentWhole a b p → StoppedBetween b c q → StoppedBetween a c (p ++ q)
+between-behind a b c p q h k = record {
+  before = p ++ k.before;
+  after = k.after;
+  split = ap (λ (puts : List Put). p ++ puts) k.split ∙ sym (append_assoc p k.before k.after);
+  went = Went-append a b c p k.before h.went k.went;
+}
+
+pub between-longer : (a b : OutputsTold) (p q : List Put) → StoppedBetween a b p → StoppedBetween a b (p ++ q)
+between-longer a b p q k = record {
+  before = k.before;
+  after = k.after ++ q;
+  split = ap (λ (puts : List Put). puts ++ q) k.split ∙ append_assoc k.before k.after q;
+  went = k.went;
+}
 
 -- the end of puts that stand behind others
-pub wrote-behind : (a b c : Written) (m n k : ℕ) (p q : List Put) (r : Result (Unit {0}) PutFault) → Puts a b p → m ≤ n → Wrote b c n k q r → Wrote a c m k (p ++ q) r
-wrote-behind a b c m n k p q (Ok x) h earlier w = Puts-append a b c p q h w
-wrote-behind a b c m n k p q (Err Failed) h earlier w = (PutsPart-behind a b c p q h w.0, rose-earlier m n k earlier w.1)
-wrote-behind a b c m n k p q (Err Memory) h earlier w = PutsFirst-behind a b c p q h w
+pub wrote-behind : (a b c : OutputsTold) (p q : List Put) (r : Result (Unit {0}) PutFault) → WentWhole a b p → Wrote b c q r → Wrote a c (p ++ q) r
+wrote-behind a b c p q (Ok x) h w = WentWhole-append a b c p q h w
+wrote-behind a b c p q (Err Failed) h w = failed-behind a b c p q h w
+wrote-behind a b c p q (Err Memory) h w = between-behind a b c p q h w
 
 -- puts that stopped at a fault, where others were to follow
-pub wrote-stopped : (a b : Written) (m k : ℕ) (p q : List Put) (fault : PutFault) → Wrote a b m k p (Err fault) → Wrote a b m k (p ++ q) (Err fault)
-wrote-stopped a b m k p q Failed w = (PutsPart-longer a b p q w.0, w.1)
-wrote-stopped a b m k p q Memory w = PutsFirst-longer a b p q w
+pub wrote-stopped : (a b : OutputsTold) (p q : List Put) (fault : PutFault) → Wrote a b p (Err fault) → Wrote a b (p ++ q) (Err fault)
+wrote-stopped a b p q Failed w = failed-longer a b p q w
+wrote-stopped a b p q Memory w = between-longer a b p q w
 
 -- puts that stopped at a fault, between those that stand and those that were to follow
-pub wrote-between : (a b c : Written) (m n k : ℕ) (p q whole rest : List Put) (fault : PutFault) → whole ≡ (p ++ q) ++ rest → Puts a b p → m ≤ n →
-    Wrote b c n k q (Err fault) → Wrote a c m k whole (Err fault)
-wrote-between a b c m n k p q whole rest Failed split h earlier w =
-    let stands = wrote-stopped a c m k (p ++ q) rest Failed (wrote-behind a b c m n k p q (Err Failed) h earlier w) in
-    subst (λ (puts : List Put). Wrote a c m k puts (Err Failed)) (sym split) stands
-wrote-between a b c m n k p q whole rest Memory split h earlier w =
-    let stands = wrote-stopped a c m k (p ++ q) rest Memory (wrote-behind a b c m n k p q (Err Memory) h earlier w) in
-    subst (λ (puts : List Put). Wrote a c m k puts (Err Memory)) (sym split) stands
+pub wrote-between : (a b c : OutputsTold) (p q whole rest : List Put) (fault : PutFault) → whole ≡ (p ++ q) ++ rest → WentWhole a b p →
+    Wrote b c q (Err fault) → Wrote a c whole (Err fault)
+wrote-between a b c p q whole rest fault split h w =
+    subst (λ (puts : List Put). Wrote a c puts (Err fault)) (sym split)
+    (wrote-stopped a c (p ++ q) rest fault (wrote-behind a b c p q (Err fault) h w))
+
+-- ---- one put
+
+pub wrote-one : (a b : OutputsTold) (name x : List ℕ) (r : Result (Unit {0}) PutFault) → Puts a b name x r → Wrote a b (put_of name x ∷ []) r
+wrote-one a b name x (Ok y) (appended, named) = WentWhole-one a b name x appended named
+wrote-one a b name x (Err Failed) (n, appended, rose) = record {
+  before = [];
+  failed = put_of name x;
+  after = [];
+  split = refl;
+  kept = n;
+  went = Went-one a b name (take n x) appended;
+  rose = rose;
+}
+wrote-one a b name x (Err Memory) kept =
+    record { before = []; after = put_of name x ∷ []; split = refl; went = Went-nil a b kept.bytes kept.put_to kept.faults }
+
+-- nothing was put yet
+pub wrote-nothing : (a : OutputsTold) (puts : List Put) → Went a a [] → Wrote a a puts (Err Memory)
+wrote-nothing a puts none = record { before = []; after = puts; split = refl; went = none }
 
 -- ---- the lines of a list
 
@@ -47,22 +101,3 @@ pub lines_to-split : (file : List ℕ) (xs : List Element) (i : ℕ) (x : Elemen
 lines_to-split file xs i x inside item =
     ap (lines_to file) (sym (take-append-drop (i + 1) xs)) ∙ map-append (λ (e : Element). put_of file (line_of e)) (take (i + 1) xs) (drop (i + 1) xs)
     ∙ ap (λ (p : List Put). p ++ lines_to file (drop (i + 1) xs)) (lines_to-more file xs i x inside item)
-
-pub lines-more : (a b c : Written) (file line : List ℕ) (xs : List Element) (i : ℕ) (x : Element) → i < length xs → x ≡ get_or xs i x → line ≡ line_of x →
-    Puts a b (lines_to file (take i xs)) → Appends b.bytes c.bytes file line → Spares b.names c.names file → Puts a c (lines_to file (take (i + 1) xs))
-lines-more a b c file line xs i x inside item text h k spares =
-    let one : Puts b c (put_of file (line_of x) ∷ []) = subst (λ (l : List ℕ). Puts b c (put_of file l ∷ [])) text (Puts-one b c file line k spares) in
-    subst (Puts a c) (sym (lines_to-more file xs i x inside item)) (Puts-append a b c (lines_to file (take i xs)) (put_of file (line_of x) ∷ []) h one)
-
-pub lines-failed : (a b c : Written) (m n k : ℕ) (file line : List ℕ) (xs : List Element) (i : ℕ) (x : Element) → i < length xs → x ≡ get_or xs i x → line ≡ line_of x →
-    Puts a b (lines_to file (take i xs)) → m ≤ n → AppendsPart b.bytes c.bytes file line → Spares b.names c.names file → Rose n k → Wrote a c m k (lines_to file xs) (Err Failed)
-lines-failed a b c m n k file line xs i x inside item text h earlier part spares rose =
-    let one = subst (λ (l : List ℕ). Wrote b c n k (put_of file l ∷ []) (Err Failed)) text (PutsPart-one b c file line part spares, rose) in
-    wrote-between a b c m n k (lines_to file (take i xs)) (put_of file (line_of x) ∷ []) (lines_to file xs) (lines_to file (drop (i + 1) xs)) Failed
-    (lines_to-split file xs i x inside item) h earlier one
-
-pub lines-wanting : (a b c : Written) (m n k : ℕ) (file line : List ℕ) (xs : List Element) (i : ℕ) (x : Element) → i < length xs → x ≡ get_or xs i x → line ≡ line_of x →
-    Puts a b (lines_to file (take i xs)) → m ≤ n → Same b.bytes c.bytes → SameNames b.names c.names → Wrote a c m k (lines_to file xs) (Err Memory)
-lines-wanting a b c m n k file line xs i x inside item text h earlier same untouched =
-    wrote-between a b c m n k (lines_to file (take i xs)) (put_of file (line_of x) ∷ []) (lines_to file xs) (lines_to file (drop (i + 1) xs)) Memory
-    (lines_to-split file xs i x inside item) h earlier (PutsFirst-none b c (put_of file (line_of x) ∷ []) same untouched)

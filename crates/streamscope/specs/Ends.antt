@@ -1,192 +1,135 @@
 -- How a command ends.
-use Rattle.std.specs.Prelude.{◌≡◌, ◌⊎◌, ℕ, ◌≤◌, List, [], ◌∷◌, ◌++◌, length, take, Some, None, Ok, Err, codes}
-use Rattle.std.specs.Option.{option_map_or}
-use Rattle.ss_elem.specs.declared.element.Element.{Element}
-use Rattle.ss_events.specs.Events.{event_list}
-use Rattle.ss_events.specs.declared.late.Late.{Late}
-use Rattle.ss_events.specs.declared.fault.EventFault.{EventFault}
-use Rattle.ss_job.specs.JobText.{VertexText, source, inner, sink, JobText}
-use Rattle.ss_job.specs.Says.{Says, Refuses}
-use Rattle.ss_job.specs.declared.fault.JobFault.{JobFault}
-use Rattle.ss_job.specs.declared.fault.JobsFault.TheVariants.{At}
+use Rattle.std.specs.Prelude.{◌≡◌, ◌⊎◌, ℕ, ◌≤◌, List, [], ◌∷◌, length, take, Some, codes}
 use Rattle.ss_outside.specs.Faults.{Rose}
-use Rattle.ss_outside.specs.Told.{Telling, Same, AreBytesOf}
-use Rattle.ss_words.specs.declared.words.Action.{Action}
-use Rattle.ss_words.specs.declared.words.Action.TheVariants.{Check, Run}
-use Rattle.streamscope.specs.FaultText.{status_of, line_of}
-use Rattle.streamscope.specs.Puts.{Put, put_of, Puts, Written, first_bytes}
-use Rattle.streamscope.specs.Read.{IsFirstUnread}
-use Rattle.streamscope.specs.Output.{run_puts}
-use Rattle.streamscope.specs.Work.{Asked, Names, SayJob, AskRun, AreStreams, unbuilt, IsSourceAt, IsFirstFault, IsOutput}
-use Rattle.streamscope.specs.declared.fault.Fault.{Fault}
-use Rattle.streamscope.specs.declared.fault.Fault.TheVariants.{Usage, Job, NotBuilt, Events, JobUnread, SourceUnread, Output, Memory}
+use Rattle.ss_outside.specs.Told.{InputsTold, OutputsTold, HeldFile, held, MayGive, KeepsInputs, FailsAt}
+use Rattle.ss_report.specs.declared.fault.Fault.{Fault}
+use Rattle.ss_report.specs.declared.fault.Fault.TheVariants.{Usage, Inputs, Output as OutputFault, Memory}
+use Rattle.streamscope.specs.Order.{Asked, Reading, Step, Value, Gives, Finds, file_read}
+use Rattle.streamscope.specs.Order.{Order, order_of, ComesTo, ComesToStep}
+use Rattle.streamscope.specs.Output.{Output, ArePutsOf}
+use Rattle.streamscope.specs.Puts.{Put, put_of, Went, WentWhole, PutFailed, StoppedBetween}
+use Rattle.streamscope.specs.Refusal.{Refusal, refusal_of, shared}
+use Rattle.streamscope.specs.declared.outside.Outside.{Outside}
 
--- what the outside tells at one moment: its files, its outputs, and the counts of faults of both
+-- what the outside tells at one moment
 pub record Seen : Type 0 where
-  pub files : Telling
-  pub outputs : Written
-  pub input_faults : ℕ
-  pub output_faults : ℕ
+  pub inputs : InputsTold
+  pub outputs : OutputsTold
 
-abbrev pub seen : Telling → Written → ℕ → ℕ → Seen
-seen files outputs input_faults output_faults =
-    record { files = files; outputs = outputs; input_faults = input_faults; output_faults = output_faults }
+abbrev pub seen : {I O D : Type 0} → (I → InputsTold) → (O → OutputsTold) → Outside I O D → Seen
+seen inputs_told outputs_told outside =
+    record { inputs = inputs_told outside.inputs; outputs = outputs_told outside.outputs }
 
-abbrev pub InputsFailed : Seen → Seen → Type 0
-InputsFailed before after = Rose before.input_faults after.input_faults
+-- the bytes that files may have, as far as it is told
+abbrev pub MayHave : InputsTold → Reading
+MayHave told file bytes = MayGive (told.file file) bytes
 
-abbrev pub OutputsFailed : Seen → Seen → Type 0
-OutputsFailed before after = Rose before.output_faults after.output_faults
+-- the bytes that files are told to have
+abbrev pub AreTold : InputsTold → Reading
+AreTold told file bytes = (has : HeldFile) × (told.file file ≡ held has) × (bytes ≡ has.bytes)
 
--- the words name a job file
-abbrev pub NameJob : Asked → List ℕ → Type 0
-NameJob asked file = (action : Action) × Names asked action file
+-- ---- why the work stops
 
--- the first bytes of the output
-abbrev pub IsPartOfOutput : Asked → Telling → List Put → Type 0
-IsPartOfOutput asked files done = (puts : List Put) × (n : ℕ) × IsOutput asked files puts × (done ≡ first_bytes n puts)
+-- a file could not be read, which is told by its name
+abbrev pub Unread : InputsTold → InputsTold → List ℕ → Refusal → Type 0
+Unread before after file refusal = FailsAt before after file × (refusal ≡ refusal_of (Inputs (shared file)))
 
--- the first puts of the output, each of them whole
-abbrev pub IsFirstOfOutput : Asked → Telling → List Put → Type 0
-IsFirstOfOutput asked files done = (puts : List Put) × (count : ℕ) × IsOutput asked files puts × (done ≡ take count puts)
+-- a step could not read its file
+abbrev pub CannotRead : InputsTold → InputsTold → Step → Refusal → Type 0
+CannotRead before after step refusal =
+    (file : List ℕ) × (file_read step ≡ Some file) × Unread before after file refusal
 
--- why a command stopped at a fault, after these puts
-abbrev pub FaultCause : Asked → Seen → Seen → List Put → Fault → Type 0
-FaultCause asked before after done Usage = (asked ≡ None) × (done ≡ [])
-FaultCause asked before after done (Job fault) =
-    (file bytes : List ℕ) × NameJob asked file × AreBytesOf before.files file bytes × Refuses bytes (At fault) × (done ≡ [])
-FaultCause asked before after done (NotBuilt v) =
-    (job : JobText) × SayJob asked Run before.files job × (unbuilt job ≡ Some v) × (done ≡ [])
-FaultCause asked before after done (Events job v fault) = AskRun asked before.files job × IsFirstFault before.files job v fault × (done ≡ [])
-FaultCause asked before after done JobUnread = (file : List ℕ) × NameJob asked file × InputsFailed before after × (done ≡ [])
-FaultCause asked before after done (SourceUnread job v) =
-    AskRun asked before.files job × IsFirstUnread before.files job v before.input_faults after.input_faults × (done ≡ [])
-FaultCause asked before after done Output = IsPartOfOutput asked before.files done × OutputsFailed before after
-FaultCause asked before after done Memory = (done ≡ []) ⊎ IsFirstOfOutput asked before.files done
+-- a step finds a refusal, or could not read its file
+abbrev pub StopsAt : InputsTold → InputsTold → Refusal → Step → Type 0
+StopsAt before after refusal step =
+    (Finds (MayHave before) step refusal × KeepsInputs before after) ⊎ CannotRead before after step refusal
 
--- a command stopped at a fault for its cause, and nothing was put but what the cause says
-abbrev pub Stopped : Asked → Seen → Seen → Fault → Type 0
-Stopped asked before after fault = (done : List Put) × FaultCause asked before after done fault × Puts before.outputs after.outputs done
+-- memory is wanting
+abbrev pub WantsMemory : InputsTold → InputsTold → Refusal → Type 0
+WantsMemory before after refusal = (refusal ≡ refusal_of Memory) × KeepsInputs before after
 
--- ---- the same of the run of a job, once the job was read
+-- a put failed, or memory was wanting between two
+abbrev pub StopsInPuts : OutputsTold → OutputsTold → List Put → Refusal → Type 0
+StopsInPuts before after puts refusal =
+    ((refusal ≡ refusal_of OutputFault) × PutFailed before after puts)
+    ⊎ ((refusal ≡ refusal_of Memory) × StoppedBetween before after puts)
 
-abbrev pub RunDone : JobText → Seen → Seen → Type 0
-RunDone job before after =
-    (streams : List (List Element)) × (unbuilt job ≡ None) × AreStreams before.files job.vertices streams
-    × Puts before.outputs after.outputs (run_puts job streams)
+-- a step gives this value, and no read fails
+abbrev pub Passes : InputsTold → InputsTold → (step : Step) → Value step → Type 0
+Passes before after step value = Gives (MayHave before) step value × KeepsInputs before after
 
--- the first bytes of what a run puts
-abbrev pub IsPartOfRun : JobText → Telling → List Put → Type 0
-IsPartOfRun job files done =
-    (streams : List (List Element)) × (n : ℕ) × (unbuilt job ≡ None) × AreStreams files job.vertices streams × (done ≡ first_bytes n (run_puts job streams))
+-- a step stops the work, or memory is wanting for it
+abbrev pub StopsOrWants : InputsTold → InputsTold → Step → Refusal → Type 0
+StopsOrWants before after step refusal = StopsAt before after refusal step ⊎ WantsMemory before after refusal
 
--- the first of its puts, each of them whole
-abbrev pub IsFirstOfRun : JobText → Telling → List Put → Type 0
-IsFirstOfRun job files done =
-    (streams : List (List Element)) × (count : ℕ) × (unbuilt job ≡ None) × AreStreams files job.vertices streams × (done ≡ take count (run_puts job streams))
+-- the work stops at a step, before anything is put
+pub record StopsEarly (order : Order) (before after : Seen) (refusal : Refusal) : Type 0 where
+  pub cause : ComesToStep (MayHave before.inputs) (StopsAt before.inputs after.inputs refusal) order
+      ⊎ WantsMemory before.inputs after.inputs refusal
+  pub nothing : Went before.outputs after.outputs []
 
--- why a run stopped at a fault, after these puts
-abbrev pub RunCause : JobText → Seen → Seen → List Put → Fault → Type 0
-RunCause job before after done Usage = ⊥
-RunCause job before after done (Job fault) = ⊥
-RunCause job before after done (NotBuilt v) = (unbuilt job ≡ Some v) × (done ≡ [])
-RunCause job before after done (Events other v fault) =
-    (other ≡ job) × (unbuilt job ≡ None) × IsFirstFault before.files job v fault × (done ≡ [])
-RunCause job before after done JobUnread = ⊥
-RunCause job before after done (SourceUnread other v) =
-    (other ≡ job) × (unbuilt job ≡ None) × IsFirstUnread before.files job v before.input_faults after.input_faults × (done ≡ [])
-RunCause job before after done Output = IsPartOfRun job before.files done × OutputsFailed before after
-RunCause job before after done Memory = (done ≡ []) ⊎ IsFirstOfRun job before.files done
+-- the work comes to its output, and stops among the puts
+pub record StopsLate (order : Order) (before after : Seen) (refusal : Refusal) : Type 0 where
+  pub output : Output
+  pub puts : List Put
+  pub comes : ComesTo (MayHave before.inputs) output order
+  pub expected : ArePutsOf output puts
+  pub cause : StopsInPuts before.outputs after.outputs puts refusal
+  pub inputs : KeepsInputs before.inputs after.inputs
 
-abbrev pub RunStopped : JobText → Seen → Seen → Fault → Type 0
-RunStopped job before after fault = (done : List Put) × RunCause job before after done fault × Puts before.outputs after.outputs done
+abbrev pub Stops : Order → Seen → Seen → Refusal → Type 0
+Stops order before after refusal = StopsEarly order before after refusal ⊎ StopsLate order before after refusal
 
--- the first n bytes of a line were put: all of it or none, unless the device failed
-abbrev pub IsToldUpTo : ℕ → List ℕ → ℕ → ℕ → Type 0
-IsToldUpTo n line faults_before faults_after = (n ≡ 0) ⊎ (length line ≤ n) ⊎ Rose faults_before faults_after
+-- the work comes to its output, all of which is put
+pub record IsDone (order : Order) (before after : Seen) : Type 0 where
+  pub output : Output
+  pub puts : List Put
+  pub comes : ComesTo (MayHave before.inputs) output order
+  pub expected : ArePutsOf output puts
+  pub whole : WentWhole before.outputs after.outputs puts
+  pub inputs : KeepsInputs before.inputs after.inputs
 
--- the same, of a line that was put to standard error
-abbrev pub TellsLine : Written → Written → ℕ → ℕ → List ℕ → Type 0
-TellsLine old new faults_before faults_after line =
-    (n : ℕ) × IsToldUpTo n line faults_before faults_after × Puts old new (put_of (codes "!") (take n line) ∷ [])
+-- the first n bytes of a line went to standard error: all of it or none, unless the device failed
+pub record TellsLine (old new : OutputsTold) (line : List ℕ) : Type 0 where
+  pub n : ℕ
+  pub whole : (n ≡ 0) ⊎ (length line ≤ n) ⊎ Rose old.faults new.faults
+  pub went : Went old new (put_of (codes "!") (take n line) ∷ [])
 
--- the job file that the words name
-abbrev pub job_file_in : Asked → List ℕ
-job_file_in asked = option_map_or (λ command. command.job) asked []
+-- the work stopped at a moment, and then the line that tells it went to standard error
+pub record IsRefused (order : Order) (refusal : Refusal) (before after : Seen) (status : ℕ) : Type 0 where
+  pub stopped : Seen
+  pub stops : Stops order before stopped refusal
+  pub told : status ≡ refusal.status
+  pub line : TellsLine stopped.outputs after.outputs refusal.line
+  pub inputs : after.inputs ≡ stopped.inputs
 
--- the line of a fault of a command with these words
-abbrev pub fault_line : Asked → Fault → List ℕ
-fault_line asked fault = line_of (job_file_in asked) fault
+-- there were no words that are text, or no memory for them, which a line tells
+abbrev pub TellsNoWords : OutputsTold → OutputsTold → ℕ → Type 0
+TellsNoWords old new status =
+    (fault : Fault) × ((fault ≡ Usage) ⊎ (fault ≡ Memory)) × (status ≡ (refusal_of fault).status)
+    × TellsLine old new (refusal_of fault).line
 
--- a command stopped with so many faults of its outputs counted, and then so many bytes of a fault's line went to
--- standard error
-pub record IsTold (asked : Asked) (before after : Seen) (fault : Fault) (done : List Put) (counted n : ℕ) : Type 0 where
-  pub cause : FaultCause asked before (record after { output_faults = counted }) done fault
-  pub line : IsToldUpTo n (fault_line asked fault) counted after.output_faults
-  pub puts : Puts before.outputs after.outputs (done ++ put_of (codes "!") (take n (fault_line asked fault)) ∷ [])
-  pub earlier : before.output_faults ≤ counted
-  pub later : counted ≤ after.output_faults
+-- memory ran out, or a file could not be read
+abbrev pub IsExcused : Seen → Seen → ℕ → Type 0
+IsExcused before after status = (status ≡ 10) ⊎ ((status ≡ 5) × Rose before.inputs.faults after.inputs.faults)
 
--- a command ended with a fault's status: it had stopped for the fault's cause, and then the fault's line went to
--- standard error
-abbrev pub EndsWithFault : Asked → Seen → Seen → ℕ → Type 0
-EndsWithFault asked before after status =
-    (fault : Fault) × (done : List Put) × (counted : ℕ) × (n : ℕ) × (status ≡ status_of fault) × IsTold asked before after fault done counted n
+-- a put failed
+abbrev pub IsPutFault : Seen → Seen → ℕ → Type 0
+IsPutFault before after status = (status ≡ 7) × Rose before.outputs.faults after.outputs.faults
 
--- a command ended with its work done: its output was put, and nothing else
-abbrev pub EndsDone : Asked → Seen → Seen → Type 0
-EndsDone asked before after = (puts : List Put) × IsOutput asked before.files puts × Puts before.outputs after.outputs puts
-
--- ---- what is told of the files
-
--- the words name a file that is told to have this fault
-abbrev pub TellsJobFault : Asked → Telling → JobFault → Type 0
-TellsJobFault asked files fault = (file bytes : List ℕ) × NameJob asked file × (files file ≡ Some bytes) × Refuses bytes (At fault)
-
--- the words are a command with this action, whose file is told to say this job
-abbrev pub TellsJob : Asked → Action → Telling → JobText → Type 0
-TellsJob asked action files job = (file bytes : List ℕ) × Names asked action file × (files file ≡ Some bytes) × Says bytes job
-
--- the words ask for the run of a job that can be run
-abbrev pub TellsRun : Asked → Telling → JobText → Type 0
-TellsRun asked files job = TellsJob asked Run files job × (unbuilt job ≡ None)
-
--- the file of a source, vertex v, is told to have this fault
-abbrev pub TellsEventFault : Telling → JobText → ℕ → EventFault → Type 0
-TellsEventFault files job v fault =
-    (file : List ℕ) × (late : Late) × (bytes : List ℕ) × IsSourceAt job v file late × (files file ≡ Some bytes) × (event_list bytes late ≡ Err fault)
-
--- the file of a vertex, if it is a source, is told to have events
-abbrev pub TellsStream : Telling → VertexText → Type 0
-TellsStream files (source file late) = (bytes : List ℕ) × (list : List Element) × (files file ≡ Some bytes) × (event_list bytes late ≡ Ok list)
-TellsStream files (inner spec policy) = Unit {0}
-TellsStream files (sink file) = Unit {0}
-
-abbrev pub TellsStreams : Telling → List VertexText → Type 0
-TellsStreams files [] = Unit {0}
-TellsStreams files (vertex ∷ vertices) = TellsStream files vertex × TellsStreams files vertices
-
--- the status is the wanted one, unless memory ran out or a device failed
-abbrev pub Comes : ℕ → Seen → Seen → ℕ → Type 0
-Comes wanted before after status =
-    (status ≡ wanted) ⊎ (status ≡ 10) ⊎ ((status ≡ 5) × InputsFailed before after)
-    ⊎ ((status ≡ 7) × (wanted ≡ 0) × OutputsFailed before after)
+abbrev pub EndsBy : Order → Seen → Seen → ℕ → Type 0
+EndsBy order before after status =
+    ((status ≡ 0) × IsDone order before after)
+    ⊎ ((refusal : Refusal) × IsRefused order refusal before after status)
 
 -- how a command ends, where its words ask for this
 pub record Ends (asked : Asked) (before after : Seen) (status : ℕ) : Type 0 where
-  -- whole, with status 0, or with a fault
-  pub how : ((status ≡ 0) × EndsDone asked before after) ⊎ EndsWithFault asked before after status
-  -- each status of a refusal comes exactly where the words, the job file or a source's file call for it
-  pub usage : asked ≡ None → (status ≡ 2) ⊎ (status ≡ 10)
-  pub usage_only : status ≡ 2 → asked ≡ None
-  pub job_fault : (fault : JobFault) → TellsJobFault asked before.files fault → Comes 3 before after status
-  pub not_built : (job : JobText) (v : ℕ) → TellsJob asked Run before.files job → unbuilt job ≡ Some v → Comes 3 before after status
-  pub events_fault : (job : JobText) (v : ℕ) (fault : EventFault) → TellsRun asked before.files job → TellsEventFault before.files job v fault →
-      Comes 4 before after status
-  -- and the work is done where none of them does
-  pub checked : (job : JobText) → TellsJob asked Check before.files job → Comes 0 before after status
-  pub run : (job : JobText) → TellsRun asked before.files job → TellsStreams before.files job.vertices → Comes 0 before after status
-  -- the files stay as they were, and no count of faults falls
-  pub files : Same before.files after.files
-  pub input_faults : before.input_faults ≤ after.input_faults
-  pub output_faults : before.output_faults ≤ after.output_faults
+  -- whole, with status 0, or refused
+  pub how : EndsBy (order_of asked) before after status
+  -- so refused exactly where the files are told to lead to a step that finds this
+  pub refused : (refusal : Refusal) →
+      ComesToStep (AreTold before.inputs) (λ step. Finds (AreTold before.inputs) step refusal) (order_of asked) →
+      IsRefused (order_of asked) refusal before after status ⊎ IsExcused before after status
+  -- and whole where they are told to lead to the output
+  pub done : (output : Output) → ComesTo (AreTold before.inputs) output (order_of asked) →
+      (status ≡ 0) ⊎ IsExcused before after status ⊎ IsPutFault before after status

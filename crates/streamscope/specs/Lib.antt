@@ -1,6 +1,7 @@
+pub mod Computed
 pub mod Ends
-pub mod FaultText
+pub mod Order
 pub mod Output
 pub mod Puts
-pub mod Read
-pub mod Work
+pub mod Refusal
+pub mod Streams

@@ -1,5 +1,6 @@
 -- What a command puts where its work is done.
-use Rattle.std.specs.Prelude.{ℕ, zero, suc, Vec, map, Bool, false, List, [], ◌∷◌, ◌++◌, length, Option, Some, None, option_and_then, slice_get, slice_index, bytes_eq, codes, if◌then◌else◌, get_or}
+use Rattle.std.specs.Prelude.{◌≡◌, ℕ, zero, suc, Vec, map, Bool, false, List, [], ◌∷◌, ◌++◌, length, Option, Some, None}
+use Rattle.std.specs.Prelude.{option_and_then, slice_get, slice_index, bytes_eq, codes, if◌then◌else◌, get_or}
 use Rattle.std.specs.List.{list_any}
 use Rattle.std.specs.Option.{option_map_or}
 use Rattle.std.specs.declared.alloc.Global.{Global}
@@ -9,7 +10,18 @@ use Rattle.ss_report.specs.StateText.{state_text}
 use Rattle.ss_report.specs.declared.state_row.StateRow.TheVariants.{Vertex, Checked, Summary, Done}
 use Rattle.ss_water.specs.declared.node.Node.{Node}
 use Rattle.ss_job.specs.declared.op.Op.{Op}
+use Rattle.ss_meaning.specs.Meaning.{meaning}
+use Rattle.ss_plan.specs.Plan.{PlanText, vertices_of}
 use Rattle.streamscope.specs.Puts.{Put, put_of, lines_to}
+
+-- what a command is to put in the end
+pub data Output : Type 0 where
+  -- the lines of a job
+  job_lines : JobText → Output
+  -- the lines of each sink of a plan
+  sink_lines : PlanText → Output
+  -- the same, and then the summary
+  run_lines : PlanText → Output
 
 -- ---- check: the lines of the job
 
@@ -18,7 +30,8 @@ vertex_line job v node op = state_text job.roles (Vertex v op node.inputs node.w
 
 -- the line of vertex v, where there is one
 abbrev pub line_of_vertex : JobText → ℕ → List ℕ
-line_of_vertex job v = option_map_or (λ node. option_map_or (vertex_line job v node) (op_of job v) []) (slice_get job.graph v) []
+line_of_vertex job v =
+    option_map_or (λ node. option_map_or (vertex_line job v node) (op_of job v) []) (slice_get job.graph v) []
 
 -- the lines of the first vertices
 abbrev pub vertex_lines : JobText → ℕ → List ℕ
@@ -31,13 +44,13 @@ check_text job = vertex_lines job (length job.vertices) ++ state_text job.roles 
 abbrev pub check_puts : JobText → List Put
 check_puts job = put_of (codes "-") (check_text job) ∷ []
 
--- ---- run: the lines of each sink, and then the summary
+-- ---- the lines of each sink, and the summary
 
--- the lists of elements that vectors hold
-abbrev pub lists_of : List (Vec Element Global) → List (List Element)
-lists_of streams = map (λ list. list.items) streams
+-- the stream of each vertex; of a sink, the one that it takes
+abbrev pub Streams : Type 0
+Streams = ℕ → List Element
 
--- the file of vertex v, where it is a sink
+-- the file of a vertex, where it is a sink
 abbrev pub file_of_sink : VertexText → Option (List ℕ)
 file_of_sink (source file late) = None
 file_of_sink (inner spec policy) = None
@@ -46,28 +59,28 @@ file_of_sink (sink file) = Some file
 abbrev pub sink_file : JobText → ℕ → Option (List ℕ)
 sink_file job v = option_and_then file_of_sink (slice_get job.vertices v)
 
--- what vertex v reads at its first input, where the streams of all vertices are given
-abbrev pub taken_by : JobText → List (List Element) → ℕ → List Element
-taken_by job streams v = option_map_or (λ node. get_or streams (slice_index node.inputs 0) []) (slice_get job.graph v) []
-
 -- what is put for vertex v: the lines of a sink, each by a put of its own, to the sink's file
-abbrev pub sink_puts : JobText → List (List Element) → ℕ → List Put
-sink_puts job streams v = option_map_or (λ file. lines_to file (taken_by job streams v)) (sink_file job v) []
+abbrev pub sink_puts : JobText → Streams → ℕ → List Put
+sink_puts job streams v = option_map_or (λ file. lines_to file (streams v)) (sink_file job v) []
 
 -- what is put for the first vertices
-abbrev pub puts_below : JobText → List (List Element) → ℕ → List Put
+abbrev pub puts_below : JobText → Streams → ℕ → List Put
 puts_below job streams zero = []
 puts_below job streams (suc v) = puts_below job streams v ++ sink_puts job streams v
 
--- a sink's line of the summary
-abbrev pub summary_line : JobText → List (List Element) → ℕ → List ℕ
-summary_line job streams v = option_map_or (λ _. state_text job.roles (Summary v (length (taken_by job streams v)))) (sink_file job v) []
+abbrev pub all_sink_puts : JobText → Streams → List Put
+all_sink_puts job streams = puts_below job streams (length job.vertices)
 
-abbrev pub summary_lines : JobText → List (List Element) → ℕ → List ℕ
+-- a sink's line of the summary
+abbrev pub summary_line : JobText → Streams → ℕ → List ℕ
+summary_line job streams v =
+    option_map_or (λ _. state_text job.roles (Summary v (length (streams v)))) (sink_file job v) []
+
+abbrev pub summary_lines : JobText → Streams → ℕ → List ℕ
 summary_lines job streams zero = []
 summary_lines job streams (suc v) = summary_lines job streams v ++ summary_line job streams v
 
-abbrev pub summary_text : JobText → List (List Element) → List ℕ
+abbrev pub summary_text : JobText → Streams → List ℕ
 summary_text job streams = summary_lines job streams (length job.vertices) ++ state_text job.roles Done
 
 -- a sink writes to standard output
@@ -82,8 +95,20 @@ abbrev pub shows_sink : JobText → Bool
 shows_sink job = list_any writes_to_output job.vertices
 
 -- the summary, where no sink writes to standard output
-abbrev pub summary_puts : JobText → List (List Element) → List Put
+abbrev pub summary_puts : JobText → Streams → List Put
 summary_puts job streams = if shows_sink job then [] else put_of (codes "-") (summary_text job streams) ∷ []
 
-abbrev pub run_puts : JobText → List (List Element) → List Put
-run_puts job streams = puts_below job streams (length job.vertices) ++ summary_puts job streams
+abbrev pub run_puts : JobText → Streams → List Put
+run_puts job streams = all_sink_puts job streams ++ summary_puts job streams
+
+-- ---- the puts of each output
+
+-- what a plan means: the stream of each vertex
+abbrev pub meaning_of : PlanText → Streams
+meaning_of plan = meaning (vertices_of plan)
+
+-- these puts, in this order, are the output
+abbrev pub ArePutsOf : Output → List Put → Type 0
+ArePutsOf (job_lines job) puts = puts ≡ check_puts job
+ArePutsOf (sink_lines plan) puts = puts ≡ all_sink_puts plan.job (meaning_of plan)
+ArePutsOf (run_lines plan) puts = puts ≡ run_puts plan.job (meaning_of plan)

@@ -1,6 +1,6 @@
-ghost use Rattle.std.specs.Prelude.{◌≡◌, ◌≤◌, ◌<◌, ◌++◌, IfOk, OnOk, length};
+ghost use Rattle.std.specs.Prelude.{◌≡◌, ◌<◌, ◌++◌, IfOk, OnOk, length};
 ghost use Rattle.streamscope.specs.Output.{check_puts, check_text, line_of_vertex};
-ghost use Rattle.streamscope.specs.Puts.{Wrote, written};
+ghost use Rattle.streamscope.specs.Puts.{Wrote};
 
 use ss_job::Job;
 use ss_outside::{Outputs, PutFault};
@@ -9,16 +9,14 @@ use std::alloc::{AllocError, Global};
 
 /// Puts the lines of a job to standard output.
 pub(crate) fn check<O: Outputs>(alloc: Global, outputs: &mut O, job: &Job) -> Result<(), PutFault>
-    ensures wrote { Wrote (written (O.bytes outputs.old) (O.names outputs.old)) (written (O.bytes outputs.new) (O.names outputs.new)) (O.count outputs.old) (O.count outputs.new) (check_puts job.now) result }
-    ensures counts { O.count outputs.old ≤ O.count outputs.new }
+    ensures { Wrote (O.told outputs.old) (O.told outputs.new) (check_puts job.now) result }
 {
     let Ok(text) = lines_of(alloc, job) else {
         return Err(PutFault::Memory);
     };
     match outputs.put("-", text.as_slice()) {
         Ok(()) => Ok(()),
-        Err(PutFault::Failed) => Err(PutFault::Failed),
-        Err(PutFault::Memory) => Err(PutFault::Memory),
+        Err(fault) => Err(fault),
     }
 }
 

@@ -2,11 +2,14 @@
 #![tactic(auto)]
 
 ghost use Rattle.std.specs.IoError.{error_kind};
-ghost use Rattle.std.specs.Prelude.{◌≡◌, ◌⊎◌, ◌↔◌};
-ghost use Rattle.streamscope.specs.FaultText.{NamesFile};
+ghost use Rattle.std.specs.Prelude.{◌≡◌, ◌⊎◌, ◌↔◌, drop, map, string_bytes, IfOk, OnErr};
+ghost use Rattle.ss_words.specs.Words.{command_of};
+ghost use Rattle.streamscope.specs.Ends.{Ends, TellsNoWords, seen};
+ghost use Rattle.std.specs.Vec.Iter.{into_iter_items};
+ghost use Rattle.std.specs.Process.{exit_status};
 
 mod check;
-mod fault;
+mod computed;
 mod outside;
 mod perform;
 mod read;
@@ -19,39 +22,86 @@ mod tests;
 mod work;
 mod write;
 
-use crate::fault::Fault;
 use crate::outside::Outside;
 use crate::perform::{perform, refuse};
-use ss_outside::{FileInputs, FileOutputs, MemDepot};
+use ss_outside::{Depot, FileInputs, FileOutputs, Inputs, MemDepot, Outputs};
+use ss_report::Fault;
+use std::alloc::{AllocError, Global};
+use std::env::Env;
 use std::io::ErrorKind;
 use std::process::ExitCode;
 use std::{env, io};
 
-/// The words after the program's name.
-fn words_of(rt: &HostRuntime) -> io::Result<Vec<String>> {
-    let mut words = Vec::new(rt.alloc());
-    for word in env::args(rt)?.skip(1) {
-        words.push(word)?;
-    }
-    Ok(words)
-}
-
 fn main(rt: HostRuntime) -> ExitCode {
-    let mut outside = Outside {
+    let outside = Outside {
         inputs: FileInputs::new(&rt),
         outputs: FileOutputs::new(&rt),
-        depot: MemDepot::new(),
+        depot: MemDepot::new(rt.alloc()),
     };
-    let status = match words_of(&rt) {
-        Ok(words) => perform(rt.alloc(), words.as_slice(), outside).status,
-        Err(error) => refuse(rt.alloc(), "", &mut outside.outputs, fault_of(&error)),
-    };
+    let (code, _) = perform_all(rt.alloc(), all_words(&rt), outside);
+    code
+}
+
+/// Does what the words say, the program's name the first of them. Gives the code of the status, and what the command
+/// was given.
+fn perform_all<I: Inputs, O: Outputs, D: Depot>(
+    alloc: Global,
+    words: io::Result<Vec<String>>,
+    mut outside: Outside<I, O, D>,
+) -> (ExitCode, Outside<I, O, D>)
+    ensures words { IfOk words (λ all. Ends (command_of (map string_bytes (drop 1 all.items)))
+        (seen I.told O.told outside) (seen I.told O.told result.1) (exit_status result.0)) }
+    ensures none { OnErr words
+        (TellsNoWords (O.told outside.outputs) (O.told result.1.outputs) (exit_status result.0)) }
+    ensures depot { result.1.depot ≡ outside.depot }
+{
+    match words {
+        Ok(words) => {
+            let done = perform(alloc, words_after_name(words.as_slice()), outside);
+            (exit_code(done.status), done.outside)
+        }
+        Err(error) => {
+            let status = refuse(alloc, &mut outside.outputs, &fault_of(&error));
+            (exit_code(status), outside)
+        }
+    }
+}
+
+/// The words that the program was started with, its name the first.
+fn all_words<R: Env + AllocGlobal>(rt: &R) -> io::Result<Vec<String>> {
+    Ok(collected(rt.alloc(), env::args(rt)?)?)
+}
+
+/// The words that are left.
+fn collected(alloc: Global, mut words: env::Args) -> Result<Vec<String>, AllocError>
+    ensures { IfOk result (λ all. all.items ≡ into_iter_items words) }
+{
+    let mut all = Vec::new(alloc);
+    while let Some(word) = words.next() {
+        all.push(word)?;
+    }
+    Ok(all)
+}
+
+/// The words after the program's name.
+fn words_after_name(words: &[String]) -> &[String]
+    ensures { result.now ≡ drop 1 words.now }
+{
+    match words {
+        [] => &[],
+        [_, after @ ..] => after,
+    }
+}
+
+/// The code with which the program ends at a status.
+fn exit_code(status: u8) -> ExitCode
+    ensures { exit_status result ≡ status }
+{
     ExitCode::from(status)
 }
 
 /// Why there are no words: want of memory, or words that are no text.
-fn fault_of(error: &io::Error) -> Fault
-    ensures file { NamesFile result }
+fn fault_of(error: &io::Error) -> Fault<'static>
     ensures memory { error_kind error.now ≡ ErrorKind.OutOfMemory ↔ result ≡ Fault.Memory }
     ensures other { (result ≡ Fault.Usage) ⊎ (result ≡ Fault.Memory) }
 {

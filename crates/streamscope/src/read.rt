@@ -1,68 +1,123 @@
-ghost use Rattle.std.specs.Prelude.{◌≤◌, IfOk, IfErr};
-ghost use Rattle.ss_outside.specs.Told.{Same};
-ghost use Rattle.streamscope.specs.Work.{FileSaysJob, FileHasEvents};
-ghost use Rattle.streamscope.specs.Read.{HasEventFault, HasJobFault, IsReadCause};
+ghost use Rattle.std.specs.Prelude.{◌≡◌, ◌⊎◌, IfOk, IfErr};
+ghost use Rattle.ss_outside.specs.Told.{KeepsInputs};
+ghost use Rattle.ss_report.specs.StateText as state_text;
+ghost use Rattle.streamscope.specs.Ends.{MayHave, Passes, StopsOrWants, Unread, WantsMemory};
+ghost use Rattle.streamscope.specs.Order as spec;
+ghost use Rattle.streamscope.specs.Order.{job_file, source_file};
+ghost use Rattle.streamscope.specs.Refusal.{refusal_of};
+ghost use Rattle.streamscope.specs.Streams.{AreTextNames, IsSourceList};
 
 use ss_elem::Element;
-use ss_events::{EventFault, EventsFault, Late, read_events};
-use ss_job::{Job, JobFault, JobsFault, read_job};
+use ss_events::{EventsFault, Late, read_events};
+use ss_fail::Role;
+use ss_job::{Job, JobsFault, read_job};
 use ss_outside::{InputFault, Inputs};
+use ss_report::Fault;
 use std::alloc::Global;
+use std::str;
 
-/// Why a file gave no value.
-#[derive(Drop)]
-pub(crate) enum ReadFault<F> {
-    /// Its bytes are at fault.
-    At(F),
-    /// It could not be read.
-    Unread,
-    /// Memory ran out.
-    Memory,
-}
-
-/// The job that a file says.
-pub(crate) fn read_job_file<I: Inputs>(
+/// The bytes of a file.
+fn read_file<'a, I: Inputs>(
     alloc: Global,
     inputs: &mut I,
-    file: &str,
-) -> Result<Job, ReadFault<JobFault>>
-    ensures job { IfOk result (FileSaysJob (I.bytes inputs.old) file.now) }
-    ensures refused { IfErr result (IsReadCause HasJobFault (I.bytes inputs.old) file.now (I.count inputs.old) (I.count inputs.new)) }
-    ensures told { Same (I.bytes inputs.old) (I.bytes inputs.new) }
-    ensures counts { I.count inputs.old ≤ I.count inputs.new }
+    file: &'a str,
+) -> Result<Vec<u8>, Fault<'a>>
+    ensures bytes { IfOk result (λ bytes.
+        MayHave (I.told inputs.old) file.entry.now bytes.items × KeepsInputs (I.told inputs.old) (I.told inputs.new)) }
+    ensures fault { IfErr result (λ fault.
+        Unread (I.told inputs.old) (I.told inputs.new) file.entry.now (refusal_of fault)
+        ⊎ WantsMemory (I.told inputs.old) (I.told inputs.new) (refusal_of fault)) }
 {
     let mut bytes = Vec::new(alloc);
     match inputs.read(file, &mut bytes) {
-        Ok(()) => match read_job(alloc, bytes.as_slice()) {
-            Ok(job) => Ok(job),
-            Err(JobsFault::At(fault)) => Err(ReadFault::At(fault)),
-            Err(JobsFault::Memory) => Err(ReadFault::Memory),
-        },
-        Err(InputFault::Failed) => Err(ReadFault::Unread),
-        Err(InputFault::Memory) => Err(ReadFault::Memory),
+        Ok(()) => Ok(bytes),
+        Err(InputFault::Failed) => Err(Fault::Inputs { file }),
+        Err(InputFault::Memory) => Err(Fault::Memory),
     }
 }
 
-/// The elements that a file of events has; `late` says what becomes of rows that start below the bound.
-pub(crate) fn read_event_file<I: Inputs>(
+/// The job that a file says.
+pub(crate) fn read_job_file<'a, I: Inputs>(
     alloc: Global,
     inputs: &mut I,
-    file: &str,
-    late: Late,
-) -> Result<Vec<Element>, ReadFault<EventFault>>
-    ensures events { IfOk result (λ list. FileHasEvents (I.bytes inputs.old) file.now late list.items) }
-    ensures refused { IfErr result (IsReadCause (HasEventFault late) (I.bytes inputs.old) file.now (I.count inputs.old) (I.count inputs.new)) }
-    ensures told { Same (I.bytes inputs.old) (I.bytes inputs.new) }
-    ensures counts { I.count inputs.old ≤ I.count inputs.new }
+    file: &'a str,
+) -> Result<Job, Fault<'a>>
+    ensures job { IfOk result (Passes (I.told inputs.old) (I.told inputs.new) (job_file file.entry.now)) }
+    ensures fault { IfErr result (λ fault.
+        StopsOrWants (I.told inputs.old) (I.told inputs.new) (job_file file.entry.now) (refusal_of fault)) }
 {
-    let mut bytes = Vec::new(alloc);
-    match inputs.read(file, &mut bytes) {
-        Ok(()) => match read_events(alloc, bytes.as_slice(), late) {
-            Ok(list) => Ok(list),
-            Err(EventsFault::At(fault)) => Err(ReadFault::At(fault)),
-            Err(EventsFault::Memory) => Err(ReadFault::Memory),
+    let bytes = match read_file(alloc, inputs, file) {
+        Ok(bytes) => bytes,
+        Err(fault) => return Err(fault),
+    };
+    match read_job(alloc, bytes.as_slice()) {
+        Ok(job) => Ok(job),
+        Err(JobsFault::At(fault)) => Err(Fault::Job(fault)),
+        Err(JobsFault::Memory) => Err(Fault::Memory),
+    }
+}
+
+/// The elements that the file of a source has, which is vertex v. One with more than the job allows is refused.
+pub(crate) fn read_event_file<'a, I: Inputs>(
+    alloc: Global,
+    inputs: &mut I,
+    job: &'a Job,
+    v: u32,
+    file: &'a str,
+    late: Late,
+) -> Result<Vec<Element>, Fault<'a>>
+    ensures list { IfOk result (λ list. Passes (I.told inputs.old) (I.told inputs.new)
+        (source_file job.entry.now v file.entry.now late) list.items) }
+    ensures sound { IfOk result (λ list. IsSourceList job.entry.now list.items) }
+    ensures fault { IfErr result (λ fault. StopsOrWants (I.told inputs.old) (I.told inputs.new)
+        (source_file job.entry.now v file.entry.now late) (refusal_of fault)) }
+{
+    let bytes = match read_file(alloc, inputs, file) {
+        Ok(bytes) => bytes,
+        Err(fault) => return Err(fault),
+    };
+    match read_events(alloc, bytes.as_slice(), late) {
+        Ok(list) => {
+            if list.len() as u64 <= job.max_elements() {
+                Ok(list)
+            } else {
+                Err(too_long(job, v))
+            }
+        }
+        Err(EventsFault::At(fault)) => Err(Fault::Events { file, fault }),
+        Err(EventsFault::Memory) => Err(Fault::Memory),
+    }
+}
+
+/// The stream of this vertex is too long.
+pub(crate) fn too_long(job: &Job, v: u32) -> Fault<'_>
+    ensures { refusal_of result ≡ spec.too_long job.now v }
+{
+    Fault::Full {
+        name: name_of(job, v),
+        most: job.max_elements(),
+    }
+}
+
+/// The name of a vertex, where there is one of this number.
+fn name_of(job: &Job, v: u32) -> &str
+    ensures { result.now ≡ state_text.name_of job.now.roles v }
+{
+    // That a name is text is told with the graph.
+    let _ = job.graph();
+    name_in(job.roles(), v)
+}
+
+/// The name of a role, where there is one of this number.
+fn name_in(roles: &[Role], v: u32) -> &str
+    requires { AreTextNames roles.now }
+    ensures { result.now ≡ state_text.name_of roles.now v }
+{
+    match roles.get(v as usize) {
+        Some(role) => match str::from_utf8(role.name.as_slice()) {
+            Ok(name) => name,
+            Err(_) => unreachable!(),
         },
-        Err(InputFault::Failed) => Err(ReadFault::Unread),
-        Err(InputFault::Memory) => Err(ReadFault::Memory),
+        None => "",
     }
 }

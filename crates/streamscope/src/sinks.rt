@@ -1,5 +1,7 @@
 ghost use Rattle.std.specs.Prelude.{◌≡◌, ◌<◌, length, option_map};
-ghost use Rattle.streamscope.specs.Output.{lists_of, sink_file, taken_by};
+ghost use Rattle.ss_plan.specs.Plan.{lists_of};
+ghost use Rattle.streamscope.specs.Output.{sink_file};
+ghost use Rattle.streamscope.specs.Computed.{list_at};
 
 use ss_elem::Element;
 use ss_job::{Job, Op};
@@ -15,13 +17,11 @@ pub(crate) fn sink_file(job: &Job, v: u32) -> Option<&str>
     }
 }
 
-/// The stream that a vertex reads at its first input, where `streams` has the stream of each vertex.
-pub(crate) fn taken_by<'a>(job: &Job, streams: &'a [Vec<Element>], v: u32) -> &'a [Element]
-    requires { v < length job.now.vertices }
-    ensures { result.now ≡ taken_by job.now (lists_of streams.entry.now) v }
+/// The list under a number, none where there is none.
+pub(crate) fn list_at(lists: &[Vec<Element>], v: u32) -> &[Element]
+    ensures { result.now ≡ list_at (lists_of lists.now) v }
 {
-    let node = job.graph().node(v);
-    match streams.get(node.inputs[0] as usize) {
+    match lists.get(v as usize) {
         Some(list) => list.as_slice(),
         None => &[],
     }

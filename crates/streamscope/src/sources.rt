@@ -1,76 +1,68 @@
-ghost use Rattle.std.specs.Prelude.{◌≡◌, ◌≤◌, ◌<◌, IfOk, IfErr, length};
-ghost use Rattle.ss_outside.specs.Told.{Same};
-ghost use Rattle.streamscope.specs.Output.{lists_of};
-ghost use Rattle.streamscope.specs.Read.{IsReadCauseOfVertex, IsSourceCause};
-ghost use Rattle.streamscope.specs.Work.{AreStreams, IsStreamAt};
+ghost use Rattle.std.specs.Prelude.{◌≡◌, ◌⊎◌, ◌<◌, All, OnOk, IfOk, IfErr, length};
+ghost use Rattle.ss_outside.specs.Told.{KeepsInputs};
+ghost use Rattle.ss_plan.specs.Plan.{lists_of};
+ghost use Rattle.streamscope.specs.Ends.{MayHave, WantsMemory};
+ghost use Rattle.streamscope.specs.Refusal.{refusal_of};
+ghost use Rattle.streamscope.specs.Streams.{AddsVertex, AreLists, IsSourceList, StopsAtVertex, StopsInSources};
 
-use crate::read::{ReadFault, read_event_file};
+use crate::read::read_event_file;
 use ss_elem::Element;
-use ss_events::EventFault;
 use ss_job::{Job, Op};
 use ss_outside::Inputs;
+use ss_report::Fault;
 use std::alloc::Global;
 
-/// Why a source gave no stream.
-#[derive(Drop)]
-pub(crate) struct SourceFault {
-    /// The number of the source.
-    pub(crate) v: u32,
-    /// Why its file gave no events.
-    pub(crate) why: ReadFault<EventFault>,
-}
-
-/// The streams of a job's vertices, one for each: those of the sources, in order, from their files, and of every
-/// other vertex none.
-pub(crate) fn read_streams<I: Inputs>(
+/// The lists of a job's sources, in order, from their files. Each is read, parsed and measured before the next is
+/// read.
+pub(crate) fn read_sources<'a, I: Inputs>(
     alloc: Global,
     inputs: &mut I,
-    job: &Job,
-) -> Result<Vec<Vec<Element>>, SourceFault>
-    ensures streams { IfOk result (λ streams. AreStreams (I.bytes inputs.old) job.now.vertices (lists_of streams.items)) }
-    ensures refused { IfErr result (IsSourceCause (I.bytes inputs.old) job.now (I.count inputs.old) (I.count inputs.new)) }
-    ensures told { Same (I.bytes inputs.old) (I.bytes inputs.new) }
-    ensures counts { I.count inputs.old ≤ I.count inputs.new }
+    job: &'a Job,
+) -> Result<Vec<Vec<Element>>, Fault<'a>>
+    ensures lists { IfOk result (λ lists.
+        AreLists (MayHave (I.told inputs.old)) job.entry.now 0 job.entry.now.vertices (lists_of lists.items)
+        × KeepsInputs (I.told inputs.old) (I.told inputs.new)) }
+    ensures each { IfOk result (λ lists. All (IsSourceList job.entry.now) (lists_of lists.items)) }
+    ensures fault { IfErr result (λ fault.
+        StopsInSources (I.told inputs.old) (I.told inputs.new) job.entry.now (refusal_of fault)
+        ⊎ WantsMemory (I.told inputs.old) (I.told inputs.new) (refusal_of fault)) }
 {
-    let mut streams = Vec::new(alloc);
+    let mut lists = Vec::new(alloc);
     for v in 0..job.graph().count() {
-        let stream = match read_stream(alloc, inputs, job, v) {
-            Ok(stream) => stream,
-            Err(why) => return Err(SourceFault { v, why }),
-        };
-        match streams.push(stream) {
+        match read_vertex(alloc, inputs, job, v, &mut lists) {
             Ok(()) => (),
-            Err(_) => {
-                return Err(SourceFault {
-                    v,
-                    why: ReadFault::Memory,
-                });
-            }
+            Err(fault) => return Err(fault),
         }
     }
-    Ok(streams)
+    Ok(lists)
 }
 
-/// The stream of a vertex: that of a source from its file, and of every other vertex none.
-fn read_stream<I: Inputs>(
+/// Appends the list of a vertex, if it is a source.
+fn read_vertex<'a, I: Inputs>(
     alloc: Global,
     inputs: &mut I,
-    job: &Job,
+    job: &'a Job,
     v: u32,
-) -> Result<Vec<Element>, ReadFault<EventFault>>
+    lists: &mut Vec<Vec<Element>>,
+) -> Result<(), Fault<'a>>
     requires { v < length job.now.vertices }
-    ensures stream { IfOk result (λ list. IsStreamAt (I.bytes inputs.old) job.now v list.items) }
-    ensures refused { IfErr result (IsReadCauseOfVertex (I.bytes inputs.old) job.now v (I.count inputs.old) (I.count inputs.new)) }
-    ensures told { Same (I.bytes inputs.old) (I.bytes inputs.new) }
-    ensures counts { I.count inputs.old ≤ I.count inputs.new }
+    ensures added { OnOk result (
+        AddsVertex (MayHave (I.told inputs.old)) job.entry.now v lists.old.items lists.new.items
+        × KeepsInputs (I.told inputs.old) (I.told inputs.new)) }
+    ensures fault { IfErr result (λ fault.
+        StopsAtVertex (I.told inputs.old) (I.told inputs.new) job.entry.now v (refusal_of fault)
+        ⊎ WantsMemory (I.told inputs.old) (I.told inputs.new) (refusal_of fault)) }
 {
     if job.op(v) != Op::Source {
-        return Ok(Vec::new(alloc));
+        return Ok(());
     }
-    match read_event_file(alloc, inputs, job.file(v), job.late(v)) {
-        Ok(list) => Ok(list),
-        Err(ReadFault::At(fault)) => Err(ReadFault::At(fault)),
-        Err(ReadFault::Unread) => Err(ReadFault::Unread),
-        Err(ReadFault::Memory) => Err(ReadFault::Memory),
+    let list = match read_event_file(alloc, inputs, job, v, job.file(v), job.late(v)) {
+        Ok(list) => list,
+        Err(fault) => return Err(fault),
+    };
+    match lists.push(list) {
+        Ok(()) => (),
+        Err(_) => return Err(Fault::Memory),
     }
+    Ok(())
 }

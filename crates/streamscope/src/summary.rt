@@ -1,8 +1,10 @@
-ghost use Rattle.std.specs.Prelude.{◌≡◌, ◌≤◌, ◌<◌, ◌++◌, IfOk, OnOk, length};
-ghost use Rattle.streamscope.specs.Output.{lists_of, shows, shows_sink, summary_line, summary_puts, summary_text};
-ghost use Rattle.streamscope.specs.Puts.{Wrote, written};
+ghost use Rattle.std.specs.Prelude.{◌≡◌, ◌<◌, ◌++◌, IfOk, OnOk, length};
+ghost use Rattle.streamscope.specs.Output.{shows, shows_sink, summary_line, summary_puts, summary_text};
+ghost use Rattle.ss_plan.specs.Plan.{lists_of};
+ghost use Rattle.streamscope.specs.Computed.{list_at};
+ghost use Rattle.streamscope.specs.Puts.{Wrote};
 
-use crate::sinks::{sink_file, taken_by};
+use crate::sinks::{list_at, sink_file};
 use ss_elem::Element;
 use ss_job::Job;
 use ss_outside::{Outputs, PutFault};
@@ -16,9 +18,8 @@ pub(crate) fn write_summary<O: Outputs>(
     job: &Job,
     streams: &[Vec<Element>],
 ) -> Result<(), PutFault>
-    ensures wrote { Wrote (written (O.bytes outputs.old) (O.names outputs.old)) (written (O.bytes outputs.new) (O.names outputs.new)) (O.count outputs.old) (O.count outputs.new)
-        (summary_puts job.now (lists_of streams.now)) result }
-    ensures counts { O.count outputs.old ≤ O.count outputs.new }
+    ensures { Wrote (O.told outputs.old) (O.told outputs.new)
+        (summary_puts job.now (list_at (lists_of streams.now))) result }
 {
     if shows_sink(job) {
         return Ok(());
@@ -28,8 +29,7 @@ pub(crate) fn write_summary<O: Outputs>(
     };
     match outputs.put("-", text.as_slice()) {
         Ok(()) => Ok(()),
-        Err(PutFault::Failed) => Err(PutFault::Failed),
-        Err(PutFault::Memory) => Err(PutFault::Memory),
+        Err(fault) => Err(fault),
     }
 }
 
@@ -58,7 +58,7 @@ fn shows(job: &Job, v: u32) -> bool
 
 /// The summary: a line for each sink, in order, and the last line.
 fn summary_of(alloc: Global, job: &Job, streams: &[Vec<Element>]) -> Result<Vec<u8>, AllocError>
-    ensures { IfOk result (λ text. text.items ≡ summary_text job.now (lists_of streams.now)) }
+    ensures { IfOk result (λ text. text.items ≡ summary_text job.now (list_at (lists_of streams.now))) }
 {
     let mut text = Vec::new(alloc);
     for v in 0..job.graph().count() {
@@ -76,12 +76,14 @@ fn put_summary(
     v: u32,
 ) -> Result<(), AllocError>
     requires { v < length job.now.vertices }
-    ensures { OnOk result (text.new.items ≡ text.old.items ++ summary_line job.now (lists_of streams.now) v) }
+    ensures { OnOk result (text.new.items ≡ text.old.items ++ summary_line job.now (list_at (lists_of streams.now)) v) }
 {
     match sink_file(job, v) {
         Some(_) => {
-            let taken = taken_by(job, streams, v).len() as u64;
-            match state_line(&StateRow::Summary { k: v, taken }, job.roles(), text) {
+            let count = list_at(streams, v).len() as u64;
+            // That a job has a role of each vertex is told with its graph.
+            let _ = job.graph();
+            match state_line(&StateRow::Summary { k: v, taken: count }, job.roles(), text) {
                 Ok(()) => Ok(()),
                 Err(error) => Err(error),
             }

@@ -3,10 +3,13 @@
 mod checks;
 mod devices;
 mod documents;
+mod ends;
 mod entries;
 mod events;
 mod made;
+mod operators;
 mod runs;
+mod windows;
 mod words;
 
 use crate::outside::{Done, Outside};
@@ -65,7 +68,7 @@ struct Command<'a> {
     puts: &'a [(u64, u64)],
 }
 
-/// What a command leaves: its status, and the bytes of each output that has some.
+/// What a command leaves: its status, and the bytes of each output that is put to.
 #[derive(Clone, Copy)]
 struct Left<'a> {
     status: u8,
@@ -98,16 +101,21 @@ fn done(
     inputs: MemInputs,
     outputs: MemOutputs,
 ) -> Result<Done<MemInputs, MemOutputs, MemDepot>, Fail> {
+    let outside = Outside {
+        inputs,
+        outputs,
+        depot: MemDepot::new(alloc),
+    };
+    Ok(perform(alloc, owned(alloc, words)?.as_slice(), outside))
+}
+
+/// The words, each as a text of its own.
+fn owned(alloc: Global, words: &[&str]) -> Result<Vec<String>, Fail> {
     let mut owned = Vec::new(alloc);
     for word in words {
         owned.push(String::from_str(alloc, word)?)?;
     }
-    let outside = Outside {
-        inputs,
-        outputs,
-        depot: MemDepot::new(),
-    };
-    Ok(perform(alloc, owned.as_slice(), outside))
+    Ok(owned)
 }
 
 /// The text that is wanted under a name.
@@ -146,7 +154,16 @@ fn check_done(
             done.outside.outputs.bytes(name) == wanted(left.texts, name).as_bytes(),
             "{what}: the bytes of {name}"
         );
+        assert!(rt;
+            is_named(left.texts, name) || !done.outside.outputs.was_put_to(name),
+            "{what}: a put to {name}"
+        );
     }
+}
+
+/// Whether one of these texts has this name.
+fn is_named(texts: &[(&str, &str)], name: &str) -> bool {
+    texts.iter().any(|text| text.0 == name)
 }
 
 /// The text under a name, where only one output has any.

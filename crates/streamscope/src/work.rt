@@ -1,49 +1,54 @@
-ghost use Rattle.std.specs.Prelude.{◌≤◌, OnOk, IfErr, Some};
-ghost use Rattle.ss_outside.specs.Told.{Same};
+ghost use Rattle.std.specs.Prelude.{◌≡◌};
+ghost use Rattle.ss_words.specs.declared.words.Action.TheVariants.{Check};
 ghost use Rattle.ss_words.specs.Answers.{command_text};
-ghost use Rattle.streamscope.specs.Puts.{written};
-ghost use Rattle.streamscope.specs.Ends.{EndsDone, Stopped, seen};
+ghost use Rattle.streamscope.specs.Ends.{EndsBy, seen};
+ghost use Rattle.streamscope.specs.Order.{order_for, order_with};
 
 use crate::check::check;
-use crate::fault::Fault;
-use crate::read::{ReadFault, read_job_file};
+use crate::outside::Outside;
+use crate::perform::refuse;
+use crate::read::read_job_file;
 use crate::run::run;
-use ss_outside::{Inputs, Outputs, PutFault};
+use ss_job::Job;
+use ss_outside::{Depot, Inputs, Outputs, PutFault};
+use ss_report::Fault;
 use ss_words::{Action, Command};
 use std::alloc::Global;
 
-/// Does the work of a command.
-pub(crate) fn work<I: Inputs, O: Outputs>(
+/// Does the work of a command, and tells the fault where one stopped it.
+pub(crate) fn work<I: Inputs, O: Outputs, D: Depot>(
     alloc: Global,
     command: &Command<'_>,
-    inputs: &mut I,
-    outputs: &mut O,
-) -> Result<(), Fault>
-    ensures done { OnOk result (EndsDone (Some (command_text command.now))
-        (seen (I.bytes inputs.old) (written (O.bytes outputs.old) (O.names outputs.old)) (I.count inputs.old) (O.count outputs.old))
-        (seen (I.bytes inputs.new) (written (O.bytes outputs.new) (O.names outputs.new)) (I.count inputs.new) (O.count outputs.new))) }
-    ensures fault { IfErr result (Stopped (Some (command_text command.now))
-        (seen (I.bytes inputs.old) (written (O.bytes outputs.old) (O.names outputs.old)) (I.count inputs.old) (O.count outputs.old))
-        (seen (I.bytes inputs.new) (written (O.bytes outputs.new) (O.names outputs.new)) (I.count inputs.new) (O.count outputs.new))) }
-    ensures told { Same (I.bytes inputs.old) (I.bytes inputs.new) }
-    ensures input_counts { I.count inputs.old ≤ I.count inputs.new }
-    ensures output_counts { O.count outputs.old ≤ O.count outputs.new }
+    outside: &mut Outside<I, O, D>,
+) -> u8
+    ensures ends { EndsBy (order_for (command_text command.now))
+        (seen I.told O.told outside.old) (seen I.told O.told outside.new) result }
+    ensures depot { outside.new.depot ≡ outside.old.depot }
 {
-    let job = match read_job_file(alloc, inputs, command.job) {
+    let job = match read_job_file(alloc, &mut outside.inputs, command.job) {
         Ok(job) => job,
-        Err(ReadFault::At(fault)) => return Err(Fault::Job(fault)),
-        Err(ReadFault::Unread) => return Err(Fault::JobUnread),
-        Err(ReadFault::Memory) => return Err(Fault::Memory),
+        Err(fault) => return refuse(alloc, &mut outside.outputs, &fault),
     };
     match command.action {
-        Action::Check => match check(alloc, outputs, &job) {
-            Ok(()) => Ok(()),
-            Err(PutFault::Failed) => Err(Fault::Output),
-            Err(PutFault::Memory) => Err(Fault::Memory),
-        },
-        Action::Run => match run(alloc, inputs, outputs, job) {
-            Ok(()) => Ok(()),
-            Err(fault) => Err(fault),
-        },
+        Action::Check => show(alloc, &job, outside),
+        Action::Plain => run(alloc, Action::Plain, job, outside),
+        Action::Run => run(alloc, Action::Run, job, outside),
+    }
+}
+
+/// Puts the lines of a job, and tells the fault where one stops that.
+fn show<I: Inputs, O: Outputs, D: Depot>(
+    alloc: Global,
+    job: &Job,
+    outside: &mut Outside<I, O, D>,
+) -> u8
+    ensures ends { EndsBy (order_with Check job.now)
+        (seen I.told O.told outside.old) (seen I.told O.told outside.new) result }
+    ensures depot { outside.new.depot ≡ outside.old.depot }
+{
+    match check(alloc, &mut outside.outputs, job) {
+        Ok(()) => 0,
+        Err(PutFault::Failed) => refuse(alloc, &mut outside.outputs, &Fault::Output),
+        Err(PutFault::Memory) => refuse(alloc, &mut outside.outputs, &Fault::Memory),
     }
 }

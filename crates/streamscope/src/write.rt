@@ -1,34 +1,40 @@
-ghost use Rattle.std.specs.Prelude.{◌≡◌, ◌≤◌, ◌<◌, length};
-ghost use Rattle.streamscope.specs.Output.{lists_of, puts_below, run_puts, sink_puts};
-ghost use Rattle.streamscope.specs.Puts.{Wrote, lines_to, written};
+ghost use Rattle.std.specs.Prelude.{◌≢◌, ◌<◌, length};
+ghost use Rattle.ss_plan.specs.Plan.{lists_of};
+ghost use Rattle.ss_words.specs.declared.words.Action.TheVariants.{Check};
+ghost use Rattle.streamscope.specs.Output.{all_sink_puts, sink_puts};
+ghost use Rattle.streamscope.specs.Computed.{list_at, puts_with};
+ghost use Rattle.streamscope.specs.Puts.{Wrote, lines_to};
 
-use crate::sinks::{sink_file, taken_by};
+use crate::sinks::{list_at, sink_file};
 use crate::summary::write_summary;
 use ss_elem::{Element, LineBuf, line};
 use ss_job::Job;
 use ss_outside::{Outputs, PutFault};
+use ss_words::Action;
 use std::alloc::Global;
 
-/// Puts the output of a run: the lines of each sink to its file, in order, and then the summary, unless a sink
-/// writes to standard output. `streams` has the stream of each vertex.
-pub(crate) fn write_run<O: Outputs>(
+/// Puts what an action puts of a job: the lines of each sink to its file, in order, and after a run the summary, unless
+/// a sink writes to standard output. `streams` has what each sink takes.
+pub(crate) fn write_output<O: Outputs>(
     alloc: Global,
     outputs: &mut O,
+    action: Action,
     job: &Job,
     streams: &[Vec<Element>],
 ) -> Result<(), PutFault>
-    ensures wrote { Wrote (written (O.bytes outputs.old) (O.names outputs.old)) (written (O.bytes outputs.new) (O.names outputs.new)) (O.count outputs.old) (O.count outputs.new)
-        (run_puts job.now (lists_of streams.now)) result }
-    ensures counts { O.count outputs.old ≤ O.count outputs.new }
+    requires { action ≢ Check }
+    ensures { Wrote (O.told outputs.old) (O.told outputs.new)
+        (puts_with action job.now (list_at (lists_of streams.now))) result }
 {
     match write_sinks(outputs, job, streams) {
-        Ok(()) => match write_summary(alloc, outputs, job, streams) {
-            Ok(()) => Ok(()),
-            Err(PutFault::Failed) => Err(PutFault::Failed),
-            Err(PutFault::Memory) => Err(PutFault::Memory),
+        Ok(()) => match action {
+            Action::Check | Action::Plain => Ok(()),
+            Action::Run => match write_summary(alloc, outputs, job, streams) {
+                Ok(()) => Ok(()),
+                Err(fault) => Err(fault),
+            },
         },
-        Err(PutFault::Failed) => Err(PutFault::Failed),
-        Err(PutFault::Memory) => Err(PutFault::Memory),
+        Err(fault) => Err(fault),
     }
 }
 
@@ -38,15 +44,13 @@ fn write_sinks<O: Outputs>(
     job: &Job,
     streams: &[Vec<Element>],
 ) -> Result<(), PutFault>
-    ensures wrote { Wrote (written (O.bytes outputs.old) (O.names outputs.old)) (written (O.bytes outputs.new) (O.names outputs.new)) (O.count outputs.old) (O.count outputs.new)
-        (puts_below job.now (lists_of streams.now) (length job.now.vertices)) result }
-    ensures counts { O.count outputs.old ≤ O.count outputs.new }
+    ensures { Wrote (O.told outputs.old) (O.told outputs.new)
+        (all_sink_puts job.now (list_at (lists_of streams.now))) result }
 {
     for v in 0..job.graph().count() {
         match write_sink(outputs, job, streams, v) {
             Ok(()) => (),
-            Err(PutFault::Failed) => return Err(PutFault::Failed),
-            Err(PutFault::Memory) => return Err(PutFault::Memory),
+            Err(fault) => return Err(fault),
         }
     }
     Ok(())
@@ -60,15 +64,13 @@ fn write_sink<O: Outputs>(
     v: u32,
 ) -> Result<(), PutFault>
     requires { v < length job.now.vertices }
-    ensures wrote { Wrote (written (O.bytes outputs.old) (O.names outputs.old)) (written (O.bytes outputs.new) (O.names outputs.new)) (O.count outputs.old) (O.count outputs.new)
-        (sink_puts job.now (lists_of streams.now) v) result }
-    ensures counts { O.count outputs.old ≤ O.count outputs.new }
+    ensures { Wrote (O.told outputs.old) (O.told outputs.new)
+        (sink_puts job.now (list_at (lists_of streams.now)) v) result }
 {
     match sink_file(job, v) {
-        Some(file) => match write_lines(outputs, file, taken_by(job, streams, v)) {
+        Some(file) => match write_lines(outputs, file, list_at(streams, v)) {
             Ok(()) => Ok(()),
-            Err(PutFault::Failed) => Err(PutFault::Failed),
-            Err(PutFault::Memory) => Err(PutFault::Memory),
+            Err(fault) => Err(fault),
         },
         None => Ok(()),
     }
@@ -76,17 +78,14 @@ fn write_sink<O: Outputs>(
 
 /// Puts a list's lines to a file, each element's by a put of its own.
 fn write_lines<O: Outputs>(outputs: &mut O, file: &str, list: &[Element]) -> Result<(), PutFault>
-    ensures wrote { Wrote (written (O.bytes outputs.old) (O.names outputs.old)) (written (O.bytes outputs.new) (O.names outputs.new)) (O.count outputs.old) (O.count outputs.new)
-        (lines_to file.now list.now) result }
-    ensures counts { O.count outputs.old ≤ O.count outputs.new }
+    ensures { Wrote (O.told outputs.old) (O.told outputs.new) (lines_to file.now list.now) result }
 {
     let mut buffer = LineBuf::new();
     for element in list {
         line(element, &mut buffer);
         match outputs.put(file, buffer.as_slice()) {
             Ok(()) => (),
-            Err(PutFault::Failed) => return Err(PutFault::Failed),
-            Err(PutFault::Memory) => return Err(PutFault::Memory),
+            Err(fault) => return Err(fault),
         }
     }
     Ok(())

@@ -9,6 +9,14 @@ vertex = [
 ]
 ";
 
+const JOIN: &[u8] = b"
+vertex = [
+    { name = 'in', op = 'source', file = 'in.csv' },
+    { name = 'j', op = 'join', inputs = ['in', 'in'] },
+    { name = 'out', op = 'sink', inputs = ['j'], file = 'out.csv' },
+]
+";
+
 const WINDOW_LINES: &str = "0 in source\n1 w window in\n2 out sink w\nok 3\n";
 
 const EVERY_OP: &[u8] = b"
@@ -66,17 +74,17 @@ fn a_job_is_told_vertex_by_vertex(rt: HostRuntime) -> Result<(), Fail> {
 }
 
 #[test]
-fn the_first_operator_is_not_run(rt: HostRuntime) -> Result<(), Fail> {
+fn a_join_is_not_run(rt: HostRuntime) -> Result<(), Fail> {
     let cases: [(&str, &[u8], &[u8], &str); 3] = [
         (
-            "a window",
-            WINDOW,
+            "a join",
+            JOIN,
             EVENTS,
             "streamscope: job: vertex 1: not built yet\n",
         ),
         (
-            "a window over a file with a fault",
-            WINDOW,
+            "a join over a file with a fault",
+            JOIN,
             b"evnt\n",
             "streamscope: job: vertex 1: not built yet\n",
         ),
@@ -84,7 +92,7 @@ fn the_first_operator_is_not_run(rt: HostRuntime) -> Result<(), Fail> {
             "every op, of missing files",
             EVERY_OP,
             EVENTS,
-            "streamscope: job: vertex 2: not built yet\n",
+            "streamscope: job: vertex 5: not built yet\n",
         ),
     ];
     for (what, job, events, line) in cases {

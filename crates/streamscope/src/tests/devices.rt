@@ -91,6 +91,7 @@ fn devices_of_two_sources_fail_in_turn(rt: HostRuntime) -> Result<(), Fail> {
                     ("z.csv", LINES),
                     ("x.csv", "cti,4\nend\n"),
                     ("y.csv", LINES),
+                    ("-", ""),
                     ("!", OUTPUT_FAULT),
                 ],
             },
@@ -111,6 +112,7 @@ fn devices_of_two_sources_fail_in_turn(rt: HostRuntime) -> Result<(), Fail> {
                 texts: &[
                     ("z.csv", LINES),
                     ("x.csv", "cti,4\nend\n"),
+                    ("y.csv", ""),
                     ("!", OUTPUT_FAULT),
                 ],
             },

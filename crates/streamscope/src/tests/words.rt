@@ -13,7 +13,7 @@ const REFUSED: Left<'static> = Left {
     texts: &[("!", USAGE)],
 };
 
-const WORDS: [&[&str]; 26] = [
+const WORDS: [&[&str]; 25] = [
     &[],
     &[""],
     &["run"],
@@ -32,7 +32,6 @@ const WORDS: [&[&str]; 26] = [
     &["run", "job.toml", "x"],
     &["run", "-x"],
     &["play", "job.toml"],
-    &["plain", "job.toml"],
     &["gen", "0"],
     &["run", "job.toml", "--workers", "9"],
     &["run", "job.toml", "--workers=2"],

@@ -1,13 +1,13 @@
-use Rattle.std.proofs.Common.{◌∙◌, codes, subst}
-use Rattle.ss_outside.specs.Told.{AppendsPart}
-use Rattle.streamscope.specs.Puts.{written}
-use Rattle.streamscope.proofs.Puts.{PutsPart-one}
+use Rattle.std.proofs.Common.{◌≡◌, ◌∙◌, codes, subst, ℕ, List, Err}
+use Rattle.ss_outside.specs.Told.{Puts}
 use Rattle.streamscope.specs.Output.{check_text}
+use Rattle.streamscope.proofs.Wrote.{wrote-one}
 use Rattle.streamscope.proofs.check.check.Goals as goal
 
-pub returns-in-Err-Failed-clause-wrote : goal.returns-in-Err-Failed-clause-wrote
-returns-in-Err-Failed-clause-wrote g c =
-    let old = written (g.O.Outputs.bytes c.args.outputs.now) (g.O.Outputs.names c.args.outputs.now) in
-    let new = written (g.O.Outputs.bytes c.put.new.self) (g.O.Outputs.names c.put.new.self) in
-    let part = subst (AppendsPart old.bytes new.bytes (codes "-")) (c.as_slice.ensures.value ∙ c.in-Ok.ensures) (c.in-Err-Failed.ensures.part (cc (c.in-Err-Failed.field-0-is))) in
-    (PutsPart-one old new (codes "-") (check_text c.args.job.now) part c.put.ensures.names, c.in-Err-Failed.ensures.failed (cc (c.in-Err-Failed.field-0-is)))
+pub returns : goal.returns
+returns g c =
+    let old = g.O.Outputs.told c.args.outputs.now in
+    let new = g.O.Outputs.told c.put.new.self in
+    let text = check_text c.args.job.now in
+    let is : c.as_slice.result.now ≡ text = c.as_slice.ensures.value ∙ c.in-Ok.ensures in
+    wrote-one old new (codes "-") text (Err c.in-Err.fault) (subst (λ (t : List ℕ). Puts old new (codes "-") t (Err c.in-Err.fault)) is c.in-Err.ensures)

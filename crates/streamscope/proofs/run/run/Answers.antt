@@ -1,38 +1,70 @@
-use Rattle.std.proofs.Common.{◌≡◌, None, sym, ◌∙◌, subst}
-use Rattle.streamscope.specs.Ends.{RunStopped, seen}
-use Rattle.streamscope.specs.Output.{lists_of}
-use Rattle.streamscope.specs.Puts.{written}
-use Rattle.streamscope.specs.Work.{unbuilt}
-use Rattle.streamscope.proofs.Puts.{Puts-nil}
-use Rattle.streamscope.proofs.Runs.{run_unread, run_failed, run_wanting}
+use Rattle.std.proofs.Common.{◌≡◌, None, Ok, Err, inl, inr, sym, refl, subst}
+use Rattle.ss_plan.specs.Built.{unbuilt}
+use Rattle.ss_plan.specs.Plan.{PlanText, lists_of}
+use Rattle.ss_report.specs.declared.fault.Fault.TheVariants.{NotBuilt, Memory}
+use Rattle.streamscope.specs.Computed.{PutsStreams}
+use Rattle.streamscope.specs.Ends.{Seen, MayHave, seen, EndsBy, Stops}
+use Rattle.streamscope.specs.Order.{Order, order_with}
+use Rattle.streamscope.specs.Refusal.{refusal_of}
+use Rattle.streamscope.proofs.Actions.{output_of, order-streams, streams_unbuilt, streams_sources, streams_wanting, streams_put, streams_stop, are_source_lists}
+use Rattle.streamscope.proofs.Ends.{at_inputs, refused_at}
 use Rattle.streamscope.proofs.run.run.Goals as goal
 
-pub returns-in-Err-clause-fault : goal.returns-in-Err-clause-fault
-returns-in-Err-clause-fault g c =
+pub returns-in-Some-clause-ends : goal.returns-in-Some-clause-ends
+returns-in-Some-clause-ends g c =
+    let before = seen g.I.Inputs.told g.O.Outputs.told c.args.outside.now in
     let job = c.args.job in
-    let outputs = c.args.outputs.now in
-    let before = seen (g.I.Inputs.bytes c.args.inputs.now) (written (g.O.Outputs.bytes outputs) (g.O.Outputs.names outputs)) (g.I.Inputs.count c.args.inputs.now) (g.O.Outputs.count outputs) in
-    let after = seen (g.I.Inputs.bytes c.read_streams.new.inputs) (written (g.O.Outputs.bytes outputs) (g.O.Outputs.names outputs)) (g.I.Inputs.count c.read_streams.new.inputs) (g.O.Outputs.count outputs) in
-    let built : unbuilt job ≡ None = sym c.first_operator.ensures ∙ c.in-None.is in
-    subst (RunStopped job before after) (sym c.source_fault.ensures)
-    (run_unread job before after c.in-Err.fault.v c.in-Err.fault.why built (Puts-nil (written (g.O.Outputs.bytes outputs) (g.O.Outputs.names outputs))) c.in-Err.ensures.refused)
+    let refusal = refusal_of (NotBuilt c.in-Some.vertex) in
+    refused_at (order_with c.args.action job) before before (g.O.Outputs.told c.refuse.new.outputs) c.refuse.result refusal
+    (subst (λ (order : Order). Stops order before before refusal) (sym (order-streams c.args.action job c.requires))
+    (streams_unbuilt job (output_of c.args.action) before c.in-Some.vertex (sym c.in-Some.ensures)))
+    c.refuse.ensures.status c.refuse.ensures.line
 
-pub returns-in-Err-Failed-clause-fault : goal.returns-in-Err-Failed-clause-fault
-returns-in-Err-Failed-clause-fault g c =
+pub returns-in-Err-clause-ends : goal.returns-in-Err-clause-ends
+returns-in-Err-clause-ends g c =
+    let before = seen g.I.Inputs.told g.O.Outputs.told c.args.outside.now in
     let job = c.args.job in
-    let lists = lists_of c.in-Ok.streams.items in
-    let before = seen (g.I.Inputs.bytes c.args.inputs.now) (written (g.O.Outputs.bytes c.args.outputs.now) (g.O.Outputs.names c.args.outputs.now)) (g.I.Inputs.count c.args.inputs.now) (g.O.Outputs.count c.args.outputs.now) in
-    let after = seen (g.I.Inputs.bytes c.read_streams.new.inputs) (written (g.O.Outputs.bytes c.write_run.new.outputs) (g.O.Outputs.names c.write_run.new.outputs)) (g.I.Inputs.count c.read_streams.new.inputs) (g.O.Outputs.count c.write_run.new.outputs) in
-    let built : unbuilt job ≡ None = sym c.first_operator.ensures ∙ c.in-None.is in
-    run_failed job before after lists built c.in-Ok.ensures.streams
-    (rw c.as_slice.ensures.value at (rw c.in-Err-Failed.field-0-is at c.in-Err-Failed.ensures.wrote))
+    let read = g.I.Inputs.told c.read_sources.new.inputs in
+    let refusal = refusal_of c.in-Err.fault in
+    refused_at (order_with c.args.action job) before (at_inputs read before) (g.O.Outputs.told c.refuse-in-Err.new.outputs) c.refuse-in-Err.result refusal
+    (subst (λ (order : Order). Stops order before (at_inputs read before) refusal) (sym (order-streams c.args.action job c.requires))
+    (streams_sources job (output_of c.args.action) before read refusal (sym c.in-None.ensures) c.in-Err.ensures.fault))
+    c.refuse-in-Err.ensures.status c.refuse-in-Err.ensures.line
 
-pub returns-clause-fault : goal.returns-clause-fault
-returns-clause-fault g c =
-    let job = c.args.job in
-    let lists = lists_of c.in-Ok.streams.items in
-    let before = seen (g.I.Inputs.bytes c.args.inputs.now) (written (g.O.Outputs.bytes c.args.outputs.now) (g.O.Outputs.names c.args.outputs.now)) (g.I.Inputs.count c.args.inputs.now) (g.O.Outputs.count c.args.outputs.now) in
-    let after = seen (g.I.Inputs.bytes c.read_streams.new.inputs) (written (g.O.Outputs.bytes c.write_run.new.outputs) (g.O.Outputs.names c.write_run.new.outputs)) (g.I.Inputs.count c.read_streams.new.inputs) (g.O.Outputs.count c.write_run.new.outputs) in
-    let built : unbuilt job ≡ None = sym c.first_operator.ensures ∙ c.in-None.is in
-    run_wanting job before after lists built c.in-Ok.ensures.streams
-    (rw c.as_slice.ensures.value at (rw c.in-Err-Memory.field-0-is at c.in-Err-Memory.ensures.wrote))
+pub of-requires : goal.of-requires
+of-requires g c =
+    let (are, kept) = c.in-Ok.ensures.lists in
+    are_source_lists (MayHave (g.I.Inputs.told c.args.outside.now.inputs)) c.args.job (lists_of c.in-Ok.lists.items) are c.in-Ok.ensures.each
+
+pub returns-in-Err-Memory-clause-ends : goal.returns-in-Err-Memory-clause-ends
+returns-in-Err-Memory-clause-ends g c =
+    let before = seen g.I.Inputs.told g.O.Outputs.told c.args.outside.now in
+    let read = g.I.Inputs.told c.read_sources.new.inputs in
+    let (are, kept) = c.in-Ok.ensures.lists in
+    refused_at (order_with c.args.action c.args.job) before (at_inputs read before) (g.O.Outputs.told c.refuse-in-Err-Memory.new.outputs) c.refuse-in-Err-Memory.result (refusal_of Memory)
+    (streams_wanting (order_with c.args.action c.args.job) before read kept) c.refuse-in-Err-Memory.ensures.status c.refuse-in-Err-Memory.ensures.line
+
+pub returns-in-Ok-put_streams-clause-ends : goal.returns-in-Ok-put_streams-clause-ends
+returns-in-Ok-put_streams-clause-ends g c =
+    let before = seen g.I.Inputs.told g.O.Outputs.told c.args.outside.now in
+    let read = g.I.Inputs.told c.read_sources.new.inputs in
+    let put = g.O.Outputs.told c.put_streams.new.outputs in
+    let (are, kept) = c.in-Ok.ensures.lists in
+    inl (
+      refl,
+      streams_put c.args.action c.args.job before read put (lists_of c.in-Ok.lists.items) c.requires (sym c.in-None.ensures) are kept
+          (subst (λ (p : PlanText). PutsStreams c.args.action p before.outputs put (Ok tt)) c.in-Ok-of.ensures.plan c.in-Ok-put_streams.ensures),
+    )
+
+pub returns-clause-ends : goal.returns-clause-ends
+returns-clause-ends g c =
+    let before = seen g.I.Inputs.told g.O.Outputs.told c.args.outside.now in
+    let read = g.I.Inputs.told c.read_sources.new.inputs in
+    let put = g.O.Outputs.told c.put_streams.new.outputs in
+    let stopped : Seen = record { inputs = read; outputs = put } in
+    let (are, kept) = c.in-Ok.ensures.lists in
+    let fault = c.in-Err-put_streams.fault in
+    refused_at (order_with c.args.action c.args.job) before stopped (g.O.Outputs.told c.refuse-in-Err-put_streams.new.outputs) c.refuse-in-Err-put_streams.result (refusal_of fault)
+    (streams_stop c.args.action c.args.job before read put (lists_of c.in-Ok.lists.items) fault c.requires (sym c.in-None.ensures) are kept
+    (subst (λ (p : PlanText). PutsStreams c.args.action p before.outputs put (Err fault)) c.in-Ok-of.ensures.plan c.in-Err-put_streams.ensures))
+    c.refuse-in-Err-put_streams.ensures.status c.refuse-in-Err-put_streams.ensures.line

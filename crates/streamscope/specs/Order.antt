@@ -1,0 +1,140 @@
+-- The order of work: which steps a command takes, one after the other, and what it puts in the end.
+use Rattle.std.specs.Prelude.{◌≡◌, ⊤, ◌⊎◌, ℕ, ◌+◌, List, [], ◌∷◌, Option, Some, None, Ok, Err}
+use Rattle.std.specs.Prelude.{◌<◌, ◌≤◌, Result, length}
+use Rattle.ss_elem.specs.declared.element.Element.{Element}
+use Rattle.ss_events.specs.Events.{event_list}
+use Rattle.ss_events.specs.declared.late.Late.{Late}
+use Rattle.ss_events.specs.declared.fault.EventFault.{EventFault}
+use Rattle.ss_job.specs.JobText.{VertexText, source, inner, sink, JobText}
+use Rattle.ss_job.specs.Says.{Says, Refuses}
+use Rattle.ss_job.specs.declared.fault.JobFault.{JobFault}
+use Rattle.ss_job.specs.declared.fault.JobsFault.TheVariants.{At}
+use Rattle.ss_plan.specs.Built.{unbuilt}
+use Rattle.ss_plan.specs.Limit.{IsFirst, IsLongAmong}
+use Rattle.ss_plan.specs.Plan.{PlanText}
+use Rattle.ss_plan.specs.Streams.{every}
+use Rattle.ss_report.specs.StateText.{name_of}
+use Rattle.ss_report.specs.declared.fault.Fault.TheVariants.{Usage, Job, NotBuilt, Events, Full}
+use Rattle.ss_words.specs.Words.{CommandText}
+use Rattle.ss_words.specs.declared.words.Action.{Action}
+use Rattle.ss_words.specs.declared.words.Action.TheVariants.{Check, Plain, Run}
+use Rattle.streamscope.specs.Output.{Output, job_lines, sink_lines, run_lines}
+use Rattle.streamscope.specs.Refusal.{Refusal, refusal_of, shared}
+
+-- what words ask for, where they are a command
+abbrev pub Asked : Type 0
+Asked = Option CommandText
+
+-- ---- steps
+
+-- a step of the work
+pub data Step : Type 0 where
+  -- take the words
+  words : Asked → Step
+  -- read the job that a file says
+  job_file : List ℕ → Step
+  -- see that each vertex of a job can be run
+  built : JobText → Step
+  -- read the elements that the file of a source has, and measure them: of the job, the vertex
+  source_file : JobText → ℕ → List ℕ → Late → Step
+  -- see that no stream is too long
+  streams_fit : PlanText → Step
+
+-- what the next step goes on with
+abbrev pub Value : Step → Type 0
+Value (words asked) = CommandText
+Value (job_file file) = JobText
+Value (built job) = ⊤
+Value (source_file job v file late) = List Element
+Value (streams_fit plan) = ⊤
+
+-- the file that a step reads
+abbrev pub file_read : Step → Option (List ℕ)
+file_read (words asked) = None
+file_read (job_file file) = Some file
+file_read (built job) = None
+file_read (source_file job v file late) = Some file
+file_read (streams_fit plan) = None
+
+-- what is told of a stream that is too long
+abbrev pub too_long : JobText → ℕ → Refusal
+too_long job v = refusal_of (Full (shared (name_of job.roles v)) job.max_elements)
+
+-- a source's file has a row at fault, or more elements than the job allows
+abbrev pub ListRefused : JobText → ℕ → List ℕ → Result (List Element) EventFault → Refusal → Type 0
+ListRefused job v file (Ok list) refusal = (job.max_elements < length list) × (refusal ≡ too_long job v)
+ListRefused job v file (Err fault) refusal = refusal ≡ refusal_of (Events (shared file) fault)
+
+-- which bytes files have
+abbrev pub Reading : Type 1
+Reading = List ℕ → List ℕ → Type 0
+
+-- a step gives this value, where files have these bytes
+abbrev pub Gives : Reading → (step : Step) → Value step → Type 0
+Gives reading (words asked) command = asked ≡ Some command
+Gives reading (job_file file) job = (bytes : List ℕ) × reading file bytes × Says bytes job
+Gives reading (built job) nothing = unbuilt job ≡ None
+Gives reading (source_file job v file late) list =
+    (bytes : List ℕ) × reading file bytes × (event_list bytes late ≡ Ok list) × (length list ≤ job.max_elements)
+Gives reading (streams_fit plan) nothing = (v : ℕ) → IsLongAmong every plan v → ⊥
+
+-- a step finds what the work is refused for
+abbrev pub Finds : Reading → Step → Refusal → Type 0
+Finds reading (words asked) refusal = (asked ≡ None) × (refusal ≡ refusal_of Usage)
+Finds reading (job_file file) refusal =
+    (bytes : List ℕ) × (fault : JobFault) × reading file bytes × Refuses bytes (At fault)
+    × (refusal ≡ refusal_of (Job fault))
+Finds reading (built job) refusal = (v : ℕ) × (unbuilt job ≡ Some v) × (refusal ≡ refusal_of (NotBuilt v))
+Finds reading (source_file job v file late) refusal =
+    (bytes : List ℕ) × reading file bytes × ListRefused job v file (event_list bytes late) refusal
+Finds reading (streams_fit plan) refusal =
+    (v : ℕ) × IsFirst (IsLongAmong every plan) v × (refusal ≡ too_long plan.job v)
+
+-- ---- the order of work
+
+-- the steps that are taken, each going on with the values of those before it, and what is put in the end
+pub data Order : Type 0 where
+  first : (step : Step) → (Value step → Order) → Order
+  put : Output → Order
+
+-- reads the sources of a job among these vertices, the first of which is v, and goes on with their lists
+abbrev pub with_sources : JobText → ℕ → List VertexText → (List (List Element) → Order) → Order
+with_sources job v [] next = next []
+with_sources job v (source file late ∷ vertices) next =
+    first (source_file job v file late) (λ list. with_sources job (v + 1) vertices (λ lists. next (list ∷ lists)))
+with_sources job v (inner spec policy ∷ vertices) next = with_sources job (v + 1) vertices next
+with_sources job v (sink file ∷ vertices) next = with_sources job (v + 1) vertices next
+
+-- reads the sources of a job that can be run, computes its streams, and goes on with what is put of the plan
+abbrev pub with_streams : JobText → (PlanText → Output) → Order
+with_streams job output =
+    first (built job) (λ _. with_sources job 0 job.vertices (λ lists.
+    let plan : PlanText = record { job = job; lists = lists } in
+    first (streams_fit plan) (λ _. put (output plan))))
+
+-- each action, once its job is read
+abbrev pub order_with : Action → JobText → Order
+order_with Check job = put (job_lines job)
+order_with Plain job = with_streams job sink_lines
+order_with Run job = with_streams job run_lines
+
+abbrev pub order_for : CommandText → Order
+order_for command = first (job_file command.job) (λ job. order_with command.action job)
+
+-- of all commands
+abbrev pub order_of : Asked → Order
+order_of asked = first (words asked) order_for
+
+-- ---- how far the work comes
+
+-- each step gives its value, and the work comes to this output
+abbrev pub ComesTo : Reading → Output → Order → Type 0
+ComesTo reading output (first step next) =
+    (value : Value step) × Gives reading step value × ComesTo reading output (next value)
+ComesTo reading output (put other) = other ≡ output
+
+-- the work comes to a step of which this holds, and those before it give their values
+abbrev pub ComesToStep : Reading → (Step → Type 0) → Order → Type 0
+ComesToStep reading Here (first step next) =
+    Here step ⊎ ((value : Value step) × Gives reading step value × ComesToStep reading Here (next value))
+ComesToStep reading Here (put output) = ⊥
