@@ -1,5 +1,6 @@
 -- What bytes say as the code of a frame, and the order in which they are tested.
-use Rattle.std.specs.Prelude.{◌≡◌, ℕ, zero, suc, ◌+◌, ◌*◌, List, [], ◌∷◌, ◌++◌, ◌&&◌, nat_lt, nat_le, ◌==◌, map, take, drop, slice_index, Result, Ok, Err, if◌then◌else◌}
+use Rattle.std.specs.Prelude.{◌≡◌, ℕ, zero, suc, ◌+◌, ◌*◌, List, [], ◌∷◌, ◌++◌, ◌&&◌, nat_lt, nat_le, ◌==◌, map, take}
+use Rattle.std.specs.Prelude.{drop, slice_index, Result, Ok, Err, if◌then◌else◌}
 use Rattle.std.specs.Option.{option_map_or}
 use Rattle.std.specs.Int.{w32, w64}
 use Rattle.ss_elem.specs.Validity.{top}
@@ -18,6 +19,10 @@ entries_at width place bytes =
 -- the length of the image, which stands behind so many inputs
 abbrev pub image_len : ℕ → List ℕ → ℕ
 image_len width bytes = number_at w32 (23 + 16 * width) bytes
+
+-- the length of the code of a frame with so many inputs
+abbrev pub frame_len : ℕ → List ℕ → ℕ
+frame_len width bytes = 59 + 16 * width + image_len width bytes
 
 -- the frame with so many inputs that the bytes say
 unfoldable pub frame_at : ℕ → List ℕ → Frame
@@ -42,12 +47,13 @@ head_tests width bytes =
 -- the bound of each of so many inputs, of which the first stands at this place
 unfoldable pub bound_tests : ℕ → ℕ → List ℕ → List Test
 bound_tests zero place bytes = []
-bound_tests (suc left) place bytes = has_value place (nat_le (number_at w64 place bytes) top) ∷ bound_tests left (place + 16) bytes
+bound_tests (suc left) place bytes =
+    has_value place (nat_le (number_at w64 place bytes) top) ∷ bound_tests left (place + 16) bytes
 
 -- the tests of the bytes as the code of a frame for v and n with so many inputs
 abbrev pub frame_tests : ℕ → ℕ → ℕ → List ℕ → List Test
 frame_tests width v n bytes =
-    head_tests width bytes ++ seal_tests (59 + 16 * width + image_len width bytes) bytes ++ name_tests v n bytes
+    head_tests width bytes ++ seal_tests (frame_len width bytes) bytes ++ name_tests v n bytes
     ++ bound_tests width 31 bytes
 
 -- what the bytes say as the code of a frame for v and n: the first fault, or the frame

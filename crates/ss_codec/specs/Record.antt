@@ -19,7 +19,8 @@ key_bytes key = key_text key ++ replicate (16 - length (key_text key)) 0
 
 abbrev pub row_bytes : Event → List ℕ
 row_bytes row =
-    number_bytes w64 row.start ++ number_bytes w64 row.end ++ key_bytes row.key ++ signed_bytes row.a ++ signed_bytes row.b
+    number_bytes w64 row.start ++ number_bytes w64 row.end ++ key_bytes row.key
+    ++ signed_bytes row.a ++ signed_bytes row.b
 
 abbrev pub kind_number : Element → ℕ
 kind_number (Row row) = 0

@@ -1,5 +1,6 @@
 -- What bytes say as a record, and the order in which they are tested.
-use Rattle.std.specs.Prelude.{ℕ, zero, suc, List, [], ◌∷◌, ◌++◌, ◌&&◌, nat_lt, ◌==◌, bytes_eq, take, drop, slice_index, Option, Some, None, is_some, unwrap_or, Result, Ok, Err, if◌then◌else◌}
+use Rattle.std.specs.Prelude.{ℕ, zero, suc, List, [], ◌∷◌, ◌++◌, ◌&&◌, nat_lt, ◌==◌, bytes_eq, take, drop}
+use Rattle.std.specs.Prelude.{slice_index, Option, Some, None, is_some, unwrap_or, Result, Ok, Err, if◌then◌else◌}
 use Rattle.std.specs.Option.{option_and_then, option_map_or}
 use Rattle.std.specs.List.{take_while}
 use Rattle.std.specs.Int.{w64}
@@ -15,7 +16,9 @@ use Rattle.ss_codec.specs.Tests.{Test, first_fault, has_bytes, has_tag, has_valu
 
 -- the key whose bytes, with zeros behind, are these 16
 unfoldable pub key_in : List ℕ → Option ℕ
-key_in bytes = option_and_then (λ key. if bytes_eq (key_bytes key) bytes then Some key else None) (key_of (take_while is_not_zero bytes))
+key_in bytes =
+    option_and_then (λ key. if bytes_eq (key_bytes key) bytes then Some key else None)
+    (key_of (take_while is_not_zero bytes))
 
 -- the key in the 16 bytes from this place on
 abbrev pub key_at : ℕ → List ℕ → Option ℕ
@@ -46,7 +49,8 @@ unfoldable pub value_tests : ℕ → List ℕ → List Test
 value_tests zero bytes =
     has_value 14 (nat_lt (number_at w64 14 bytes) (number_at w64 22 bytes) && nat_lt (number_at w64 22 bytes) top)
     ∷ has_value 30 (is_some (key_at 30 bytes)) ∷ []
-value_tests (suc zero) bytes = has_value 14 (nat_lt 0 (number_at w64 14 bytes) && nat_lt (number_at w64 14 bytes) top) ∷ []
+value_tests (suc zero) bytes =
+    has_value 14 (nat_lt 0 (number_at w64 14 bytes) && nat_lt (number_at w64 14 bytes) top) ∷ []
 value_tests (suc (suc k)) bytes = []
 
 -- the tests of the bytes as a record for v and n of this kind

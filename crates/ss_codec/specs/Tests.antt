@@ -1,5 +1,6 @@
 -- Tests of bytes, in an order.
-use Rattle.std.specs.Prelude.{ℕ, List, [], ◌∷◌, ◌-◌, Bool, nat_le, ◌==◌, bytes_eq, length, take, drop, Option, Some, None, if◌then◌else◌}
+use Rattle.std.specs.Prelude.{ℕ, List, [], ◌∷◌, ◌-◌, Bool, nat_le, ◌==◌, bytes_eq, length, take, drop, Option, Some}
+use Rattle.std.specs.Prelude.{None, if◌then◌else◌}
 use Rattle.std.specs.Int.{w32, w64}
 use Rattle.sha2.specs.Sha256.{sha256}
 use Rattle.ss_codec.specs.declared.fault.CodecFault.{CodecFault}

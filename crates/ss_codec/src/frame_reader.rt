@@ -1,10 +1,11 @@
-ghost use Rattle.std.specs.Prelude.{◌≡◌, ◌+◌, ◌*◌, ◌≤◌, ◌<◌, ◌++◌, ◌≢◌, ℕ, List, [], length, take, drop, slice_index, nat_lt, if◌then◌else◌, IfOk, OnOk, IsErr, Ok};
+ghost use Rattle.std.specs.Prelude.{◌≡◌, ◌+◌, ◌*◌, ◌≤◌, ◌<◌, ◌++◌, ◌≢◌, ℕ, List, [], length, take, drop, slice_index};
+ghost use Rattle.std.specs.Prelude.{nat_lt, if◌then◌else◌, IfOk, OnOk, IsErr, Ok};
 ghost use Rattle.std.specs.Result.{result_err};
 ghost use Rattle.std.specs.Int.{w32, w64};
 ghost use Rattle.ss_codec.specs.declared.frame.Frame.{Frame};
 ghost use Rattle.ss_codec.specs.Frame.{HasCode, IsFrame, frame_bytes};
-ghost use Rattle.ss_codec.specs.FrameTests.{GivesFrame, bound_tests, entries_at, frame_at, frame_read, frame_tests};
-ghost use Rattle.ss_codec.specs.FrameTests.{head_tests, image_len};
+ghost use Rattle.ss_codec.specs.FrameTests.{GivesFrame, bound_tests, entries_at, frame_at, frame_len, frame_read};
+ghost use Rattle.ss_codec.specs.FrameTests.{frame_tests, head_tests};
 ghost use Rattle.ss_codec.specs.Numbers.{number_at};
 ghost use Rattle.ss_codec.specs.Tests.{first_fault};
 
@@ -25,7 +26,8 @@ pub fn get_frame(alloc: Global, bytes: &[u8], v: u32, n: u64) -> Result<Frame, F
     // Bytes that are the code of a frame for v and n are read as this frame.
     ensures read { (f : Frame) → IsFrame f → f.v ≡ v → f.n ≡ n → bytes.now ≡ frame_bytes f → GivesFrame result (Ok f) }
     // Bytes that lack the end of a code are refused.
-    ensures short { (f : Frame) (rest : List ℕ) → HasCode f → frame_bytes f ≡ bytes.now ++ rest → rest ≢ [] → IsErr result }
+    ensures short { (f : Frame) (rest : List ℕ) →
+        HasCode f → frame_bytes f ≡ bytes.now ++ rest → rest ≢ [] → IsErr result }
     // Which fault it is: that of the first test which isn't passed.
     ensures exact { GivesFrame result (frame_read v n bytes.now) }
 {
@@ -48,7 +50,7 @@ fn read_frame(alloc: Global, bytes: &[u8], v: u32, n: u64) -> Result<Frame, Fram
 /// That the bytes are the code of a frame for this vertex and number.
 fn check_frame(bytes: &[u8], v: u32, n: u64) -> Result<(), CodecFault>
     ensures fault { result_err result ≡ first_fault (frame_tests (slice_index bytes.now 22) v n bytes.now) }
-    ensures len { OnOk result (length bytes.now ≡ 59 + 16 * slice_index bytes.now 22 + image_len (slice_index bytes.now 22) bytes.now) }
+    ensures len { OnOk result (length bytes.now ≡ frame_len (slice_index bytes.now 22) bytes.now) }
     ensures width { OnOk result (slice_index bytes.now 22 ≤ 8) }
 {
     let len = code_len(bytes)?;
@@ -60,7 +62,7 @@ fn check_frame(bytes: &[u8], v: u32, n: u64) -> Result<(), CodecFault>
 /// The length of the code, which what stands before the image says.
 fn code_len(bytes: &[u8]) -> Result<usize, CodecFault>
     ensures fault { result_err result ≡ first_fault (head_tests (slice_index bytes.now 22) bytes.now) }
-    ensures len { IfOk result (λ len. len ≡ 59 + 16 * slice_index bytes.now 22 + image_len (slice_index bytes.now 22) bytes.now) }
+    ensures len { IfOk result (λ len. len ≡ frame_len (slice_index bytes.now 22) bytes.now) }
     ensures width { OnOk result (slice_index bytes.now 22 ≤ 8) }
 {
     if bytes.len() < 23 {
@@ -108,7 +110,7 @@ fn check_bounds(bytes: &[u8]) -> Result<(), CodecFault>
 /// The frame that the bytes say.
 #[tactic(auto, unfolding(crate::specs::FrameTests::frame_at))]
 fn frame_of(alloc: Global, bytes: &[u8]) -> Result<Frame, Memory>
-    requires len { length bytes.now ≡ 59 + 16 * slice_index bytes.now 22 + image_len (slice_index bytes.now 22) bytes.now }
+    requires len { length bytes.now ≡ frame_len (slice_index bytes.now 22) bytes.now }
     requires width { slice_index bytes.now 22 ≤ 8 }
     ensures { IfOk result (λ f. f ≡ frame_at (slice_index bytes.now 22) bytes.now) }
 {

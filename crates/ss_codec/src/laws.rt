@@ -1,5 +1,5 @@
-ghost use Rattle.ss_codec.specs.Laws.{FramesAreReadAgain, NoFrameBeginsAnother, NoRecordBeginsAnother};
-ghost use Rattle.ss_codec.specs.Laws.{RecordsAreReadAgain};
+ghost use Rattle.ss_codec.specs.Laws.{FramesAreReadAgain, FramesHaveLengths, NoFrameBeginsAnother};
+ghost use Rattle.ss_codec.specs.Laws.{NoRecordBeginsAnother, RecordsAreReadAgain};
 
 /// A record is read as its element, so what was put is read again.
 pub fn records_are_read_again()
@@ -19,4 +19,9 @@ pub fn frames_are_read_again()
 /// No frame's code is a proper part of another from the front on.
 pub fn no_frame_begins_another()
     ensures { NoFrameBeginsAnother }
+{}
+
+/// How long the code of a frame is.
+pub fn frames_have_lengths()
+    ensures { FramesHaveLengths }
 {}

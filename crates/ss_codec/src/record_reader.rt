@@ -1,4 +1,5 @@
-ghost use Rattle.std.specs.Prelude.{◌≡◌, ◌+◌, ◌-◌, ◌≤◌, ◌<◌, ◌++◌, ◌≢◌, List, ℕ, [], length, take, drop, IfOk, OnOk, IsErr, Ok};
+ghost use Rattle.std.specs.Prelude.{◌≡◌, ◌+◌, ◌-◌, ◌≤◌, ◌<◌, ◌++◌, ◌≢◌, List, ℕ, [], length, take, drop, IfOk, OnOk};
+ghost use Rattle.std.specs.Prelude.{IsErr, Ok};
 ghost use Rattle.std.specs.Result.{result_err, result_ok};
 ghost use Rattle.std.specs.List.{take_while};
 ghost use Rattle.ss_elem.specs.declared.element.Element.{Element};
@@ -33,7 +34,7 @@ pub fn get_element(bytes: &[u8], v: u32, n: u64) -> Result<Element, CodecFault>
     read_record(bytes, v, n)
 }
 
-#[tactic(auto, unfolding(crate::specs::RecordTests::record_read, crate::specs::RecordTests::element_at, crate::specs::RecordTests::value_tests))]
+#[tactic(auto, unfolding(crate::specs::RecordTests::record_read))]
 fn read_record(bytes: &[u8], v: u32, n: u64) -> Result<Element, CodecFault>
     ensures { result ≡ record_read v n bytes.now }
 {
@@ -55,7 +56,7 @@ fn read_record(bytes: &[u8], v: u32, n: u64) -> Result<Element, CodecFault>
         [RECORD_FORM, 2, ..] => {
             check_seal(bytes, 46)?;
             check_name(bytes, v, n)?;
-            Ok(Element::End)
+            read_end(bytes)
         }
         [RECORD_FORM, _, ..] => Err(CodecFault::BadTag { at: 1 }),
         [_, _, ..] => Err(CodecFault::BadTag { at: 0 }),
@@ -135,6 +136,14 @@ fn read_cti(bytes: &[u8]) -> Result<Element, CodecFault>
         return Err(CodecFault::BadValue { at: 14 });
     }
     Ok(Element::Cti(time))
+}
+
+#[tactic(auto, unfolding(crate::specs::RecordTests::value_tests, crate::specs::RecordTests::element_at))]
+fn read_end(_bytes: &[u8]) -> Result<Element, CodecFault>
+    ensures fault { result_err result ≡ first_fault (value_tests 2 _bytes.now) }
+    ensures end { IfOk result (λ x. x ≡ element_at 2 _bytes.now) }
+{
+    Ok(Element::End)
 }
 
 /// The key whose bytes, with zeros behind, are these.

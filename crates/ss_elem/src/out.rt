@@ -17,7 +17,8 @@ impl Model for Out {
 
     ghost Value = { OutList };
 
-    ghost view = { λ out. record { elements = out.elements.items; spare = vec_capacity out.elements - vec_len out.elements } };
+    ghost view = { λ out.
+        record { elements = out.elements.items; spare = vec_capacity out.elements - vec_len out.elements } };
 }
 
 impl Out {
@@ -48,6 +49,14 @@ impl Out {
         ensures spare { self.new.spare + 1 ≡ self.old.spare }
     {
         self.elements.push_reserved(x);
+    }
+
+    /// Drops all elements. Their places stay reserved.
+    pub fn clear(&mut self)
+        ensures elements { self.new.elements ≡ [] }
+        ensures keeps { self.old.spare ≤ self.new.spare }
+    {
+        self.elements.clear();
     }
 
     /// The elements in their order.

@@ -50,7 +50,8 @@ SelectsPass =
 -- and one for which it doesn't is not given
 abbrev pub SelectsHold : Type 0
 SelectsHold =
-    rows_at (operator_of (Select (Some is_less) difference first_value)) 1 [] (from 0 (valued 5 9 k (pos 4) (pos 4))) ≡ []
+    rows_at (operator_of (Select (Some is_less) difference first_value)) 1 [] (from 0 (valued 5 9 k (pos 4) (pos 4)))
+    ≡ []
 
 -- a window aggregates the field that it is told
 abbrev pub WindowsTakeTheirField : Type 0

@@ -1,6 +1,7 @@
 ghost use Rattle.std.specs.Prelude.{◌≡◌, true};
 ghost use Rattle.std.specs.Option.{option_to_list};
-ghost use Rattle.ss_expr.specs.Operators.{passes, selected, is_row_by_row, AreRowsAt, HasShortRow, IsComputable, IsTest};
+ghost use Rattle.ss_expr.specs.Operators.{passes, selected, is_row_by_row, AreRowsAt, HasShortRow, IsComputable};
+ghost use Rattle.ss_expr.specs.Operators.{IsTest};
 ghost use Rattle.ss_expr.specs.Values.{HasShortTimes};
 ghost use Rattle.ss_elem.specs.declared.element.Element.TheVariants.{Row};
 ghost use Rattle.ss_expr.specs.declared.stream_operator.Spec.TheVariants.{Select};

@@ -1,5 +1,7 @@
 -- What the words of a line say.
-use Rattle.std.specs.Prelude.{ℕ, ◌^◌, ◌-◌, ◌&&◌, Bool, true, false, not, nat_lt, nat_le, ◌==◌, bytes_eq, List, [], ◌∷◌, length, Option, Some, None, position, slice_get, Result, Ok, Err, codes, if◌then◌else◌}
+use Rattle.std.specs.Prelude.{ℕ, ◌^◌, ◌-◌, ◌&&◌, Bool, true, false, not, nat_lt, nat_le, ◌==◌, bytes_eq, List, []}
+use Rattle.std.specs.Prelude.{◌∷◌, length, Option, Some, None, position, slice_get, Result, Ok, Err, codes}
+use Rattle.std.specs.Prelude.{if◌then◌else◌}
 use Rattle.std.specs.Option.{option_map_or, ok_or}
 use Rattle.ss_water.specs.declared.node.Kind.{Kind}
 use Rattle.ss_water.specs.Graph.{is_sink}

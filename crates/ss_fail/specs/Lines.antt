@@ -1,5 +1,6 @@
 -- Scripts as lines of words.
-use Rattle.std.specs.Prelude.{◌≡◌, ℕ, ◌+◌, ◌||◌, Bool, nat_lt, ◌==◌, List, [], ◌∷◌, ◌++◌, length, filter, slice_index, Option, Some, None, option_to_list, Result, Ok, Err, if◌then◌else◌}
+use Rattle.std.specs.Prelude.{◌≡◌, ℕ, ◌+◌, ◌||◌, Bool, nat_lt, ◌==◌, List, [], ◌∷◌, ◌++◌, length, filter, slice_index}
+use Rattle.std.specs.Prelude.{Option, Some, None, option_to_list, Result, Ok, Err, if◌then◌else◌}
 use Rattle.std.specs.Global.{Vec}
 use Rattle.std.specs.List.{slice_split}
 use Rattle.std.specs.Str.Lines.{lines}
@@ -39,13 +40,15 @@ said_lines number [] = []
 said_lines number (line ∷ others) = option_to_list (said_line number line) ++ said_lines (number + 1) others
 
 -- a line's value before those of the lines behind it; the first fault is that of all
-abbrev pub then_values : {X : Type 0} → ℕ → Result X ScriptWhy → Result (List X) ScriptFault → Result (List X) ScriptFault
+abbrev pub then_values :
+    {X : Type 0} → ℕ → Result X ScriptWhy → Result (List X) ScriptFault → Result (List X) ScriptFault
 then_values number (Err why) others = Err (record { line = number; why = why })
 then_values number (Ok x) (Err refused) = Err refused
 then_values number (Ok x) (Ok xs) = Ok (x ∷ xs)
 
 -- the value of each line, as it is read from its words, or the first fault
-abbrev pub values_of : {X : Type 0} → (List (List ℕ) → Result X ScriptWhy) → List LineWords → Result (List X) ScriptFault
+abbrev pub values_of :
+    {X : Type 0} → (List (List ℕ) → Result X ScriptWhy) → List LineWords → Result (List X) ScriptFault
 values_of reads [] = Ok []
 values_of reads (line ∷ others) = then_values line.number (reads line.words) (values_of reads others)
 

@@ -15,7 +15,8 @@ pub(crate) fn said_lines(alloc: Global, bytes: &[u8]) -> Result<Vec<Line<'_>>, A
 }
 
 fn lines_in<'a>(alloc: Global, parts: &[&'a [u8]]) -> Result<Vec<Line<'a>>, AllocError>
-    ensures { IfOk result (λ v. map said v.items ≡ spec.said_lines 1 (lines_of_parts (map (λ part. part.now) parts.now))) }
+    ensures { IfOk result (λ v.
+        map said v.items ≡ spec.said_lines 1 (lines_of_parts (map (λ part. part.now) parts.now))) }
 {
     let mut said = Vec::new(alloc);
     for place in 0..parts.len() {
@@ -28,7 +29,8 @@ fn lines_in<'a>(alloc: Global, parts: &[&'a [u8]]) -> Result<Vec<Line<'a>>, Allo
 
 /// Appends the line, if there is one.
 fn push_found<'a>(lines: &mut Vec<Line<'a>>, found: Option<Line<'a>>) -> Result<(), AllocError>
-    ensures { OnOk result (map said lines.new.items ≡ map said lines.old.items ++ option_to_list (option_map said found.entry)) }
+    ensures { OnOk result (map said lines.new.items ≡
+        map said lines.old.items ++ option_to_list (option_map said found.entry)) }
 {
     match found {
         Some(line) => lines.push(line)?,

@@ -1,5 +1,6 @@
 -- What a tail holds, and what becomes of it.
-use Rattle.std.specs.Prelude.{◌≡◌, ℕ, ◌+◌, ◌-◌, ◌≤◌, ◌<◌, ◌^◌, ◌==◌, Bool, List, [], ◌∷◌, ◌++◌, length, take, drop, if◌then◌else◌}
+use Rattle.std.specs.Prelude.{◌≡◌, ℕ, ◌+◌, ◌-◌, ◌≤◌, ◌<◌, ◌^◌, ◌==◌, Bool, List, [], ◌∷◌, ◌++◌, length, take, drop}
+use Rattle.std.specs.Prelude.{if◌then◌else◌}
 use Rattle.ss_elem.specs.declared.element.Element.{Element}
 use Rattle.ss_state.specs.State.{TailNumbers, new_tail}
 use Rattle.ss_state.specs.Tails.{appended, batch_from, dropped_below, restarted, told}

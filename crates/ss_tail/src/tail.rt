@@ -1,8 +1,10 @@
-ghost use Rattle.std.specs.Prelude.{◌≡◌, ◌+◌, ◌-◌, ◌<◌, ◌≤◌, ◌^◌, ℕ, List, drop, length, slice_get, take, is_ok, IfOk, Some, if◌then◌else◌};
+ghost use Rattle.std.specs.Prelude.{◌≡◌, ◌+◌, ◌-◌, ◌<◌, ◌≤◌, ◌^◌, ℕ, List, drop, length, slice_get, take, is_ok};
+ghost use Rattle.std.specs.Prelude.{IfOk, Some, if◌then◌else◌};
 ghost use Rattle.ss_elem.specs.declared.element.Element.{Element};
 ghost use Rattle.ss_state.specs.Tails.{batch_from, batch_len};
 ghost use Rattle.ss_tail.specs.Answers.{IsOf, shown_at, wrote_at};
-ghost use Rattle.ss_tail.specs.Held.{IsNumbered, Stands, added, batch_items, begun_at, empty, noted, part, trimmed, written};
+ghost use Rattle.ss_tail.specs.Held.{IsNumbered, Stands, added, batch_items, begun_at, empty, noted, part, trimmed};
+ghost use Rattle.ss_tail.specs.Held.{written};
 
 use crate::Memory;
 use crate::answers::{Shown, Wrote};
@@ -101,7 +103,8 @@ impl Tail {
         requires { n + 1 < 2 ^ 64 }
         ensures answer { IfOk result (λ wrote. wrote ≡ wrote_at self.old.numbers n) }
         ensures written { self.new ≡ (if is_ok result then written self.old n x.now else self.old) }
-        ensures standing { (list : List Element) (most : ℕ) → Stands list most self.old → slice_get list n ≡ Some x.now → n < most → Stands list most self.new }
+        ensures standing { (list : List Element) (most : ℕ) → Stands list most self.old →
+            slice_get list n ≡ Some x.now → n < most → Stands list most self.new }
     {
         let end = self.end();
         if n > end {
@@ -152,7 +155,8 @@ impl Tail {
         ensures from { result.0 ≡ batch_from self.now.numbers }
         ensures items { result.1.now ≡ batch_items self.now most }
         ensures count { length result.1.now ≡ batch_len self.now.numbers most }
-        ensures standing { (list : List Element) (limit : ℕ) → Stands list limit self.now → result.1.now ≡ part result.0 (length result.1.now) list }
+        ensures standing { (list : List Element) (limit : ℕ) → Stands list limit self.now →
+            result.1.now ≡ part result.0 (length result.1.now) list }
     {
         let from = self.seen.max(self.from);
         (from, self.items_from(from, most))
@@ -175,7 +179,8 @@ impl Tail {
     /// Tells the tail that so many elements of the stream are stored.
     pub fn note(&mut self, dur: u64)
         ensures noted { self.new ≡ noted self.old dur }
-        ensures standing { (list : List Element) (most : ℕ) → Stands list most self.old → dur ≤ length list → dur ≤ most → Stands list most self.new }
+        ensures standing { (list : List Element) (most : ℕ) → Stands list most self.old →
+            dur ≤ length list → dur ≤ most → Stands list most self.new }
     {
         self.seen = self.seen.max(dur);
     }

@@ -50,7 +50,8 @@ rows_in words = unless_refused (fault_of command_line words) (matches_of command
 abbrev pub action_of : List ℕ → Option Action
 action_of word =
     if bytes_eq word (codes "check") then Some Check
-    else (if bytes_eq word (codes "plain") then Some Plain else (if bytes_eq word (codes "run") then Some Run else None))
+    else (if bytes_eq word (codes "plain") then Some Plain
+    else (if bytes_eq word (codes "run") then Some Run else None))
 
 -- a word that may name a file: 1 to 200 bytes
 abbrev pub is_file_word : List ℕ → Bool

@@ -46,8 +46,8 @@ pub enum WordsFault {
 
 /// Reads the words after the program's name.
 ///
-/// A command is an action, `check`, `plain` or `run`, and then the name of a job file, of 1 to 200 bytes. A word that begins
-/// with `-` and has more bytes names a file only behind the word `--`.
+/// A command is an action, `check`, `plain` or `run`, and then the name of a job file, of 1 to 200 bytes. A word that
+/// begins with `-` and has more bytes names a file only behind the word `--`.
 #[tactic(auto, unfolding(crate::specs::Words::command_of))]
 pub fn command_of(alloc: Global, words: &[String]) -> Result<Command<'_>, WordsFault>
     ensures { AnswersReading command_text result (spec.command_of (map string_bytes words.now)) }
