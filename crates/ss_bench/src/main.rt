@@ -1,17 +1,20 @@
-//! Work to be timed by hand: digests, records, and a tail. Each part folds what it made into one number and prints it.
+//! Work to be timed by hand: digests, records, a tail, and a depot. Each part folds what it made into one number and
+//! prints it.
 #![tactic(auto)]
 
+mod depot;
 mod parts;
 
+use crate::depot::{depot_append, depot_cut, depot_fetch};
 use crate::parts::{digests, records, tail};
 use ss_outside::{FileOutputs, Outputs, PutFault};
 use std::alloc::Global;
 use std::process::ExitCode;
 use std::{env, io};
 
-const USAGE: &[u8] = b"usage: ss_bench digests|records|tail COUNT\n";
+const USAGE: &[u8] = b"usage: ss_bench PART COUNT\n";
 
-const PARTS: &[u8] = b"digests records tail\n";
+const PARTS: &[u8] = b"digests records tail depot_append depot_fetch depot_cut\n";
 
 /// The words after the program's name.
 fn words_of(rt: &HostRuntime) -> io::Result<Vec<String>> {
@@ -31,6 +34,9 @@ fn made_by(alloc: Global, words: &[String]) -> Option<u64> {
                 "digests" => Some(digests(count)),
                 "records" => records(alloc, count),
                 "tail" => tail(alloc, count),
+                "depot_append" => depot_append(alloc, count),
+                "depot_fetch" => depot_fetch(alloc, count),
+                "depot_cut" => depot_cut(alloc, count),
                 _ => None,
             }
         }

@@ -1,8 +1,8 @@
 -- What a depot in memory holds at first, and what its fetches and loads answer.
-use Rattle.std.proofs.Common.{◌≡◌, ℕ, suc, zero, ◌+◌, ◌-◌, ◌≤◌, min, ◌⊎◌, ◌≢◌, inl, inr, Bool, true, false, List, [], ◌∷◌, ◌++◌, length, take, drop}
-use Rattle.std.proofs.Common.{Option, Some, None, Result, Ok, Err, IfSome, IsSome, IsSomeAnd, OnOk, OnErr, is_ok, ◌&&◌, refl, ap, sym, subst, ◌∙◌, arith, if◌then◌else◌}
-use Rattle.std.proofs.Common.{map, replicate, slice_index, length-drop, cond}
-use Rattle.std.proofs.lemmas.List.{drop_min, drop-map, take-append-drop}
+use Rattle.std.proofs.Common.{◌≡◌, ℕ, suc, zero, ◌-◌, ◌≤◌, ◌⊎◌, ◌≢◌, inl, inr, Bool, true, false, List, [], ◌∷◌, length, take, drop}
+use Rattle.std.proofs.Common.{Option, Some, None, Result, Ok, Err, IfSome, IsSome, OnOk, OnErr, is_ok, ◌&&◌, refl, ap, sym, subst, ◌∙◌, arith, if◌then◌else◌}
+use Rattle.std.proofs.Common.{replicate, slice_index, length-drop}
+use Rattle.std.proofs.lemmas.List.{take-append-drop}
 use Rattle.ss_outside.specs.Depot.{Contents, DepotTold, Gives, IsGivenFor, IsProperPrefix}
 use Rattle.ss_outside.specs.Faults.{next_count}
 use Rattle.ss_outside.specs.DepotCalls.{MakesCall, counted_if, damages_next, depot_failed, given_next}
@@ -16,12 +16,6 @@ pub slice_index-zeros : (n v : ℕ) → slice_index (replicate n 0) v ≡ 0
 slice_index-zeros zero v = refl
 slice_index-zeros (suc n) zero = refl
 slice_index-zeros (suc n) (suc v) = slice_index-zeros n v
-
--- as many gone from the front, or all where there are fewer
-pub map-dropped : {X Y : Type 0} (f : X → Y) (xs ys : List X) (count n : ℕ) → n ≡ min count (length xs) → ys ≡ drop n xs →
-    map f ys ≡ drop count (map f xs)
-map-dropped f xs ys count n is dropped =
-    ap (λ l. map f l) (dropped ∙ ap (λ k. drop k xs) is ∙ drop_min count xs) ∙ sym (drop-map f count xs)
 
 -- ---- short answers
 

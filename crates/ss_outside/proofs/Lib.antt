@@ -1,3 +1,4 @@
 mod Depots
 mod Examples
+pub mod PieceLists
 pub mod Places

@@ -28,7 +28,8 @@ next_number contents v = contents.first v + length (contents.records v)
 
 -- record n of v, where it is held
 abbrev pub record_at : Contents → ℕ → ℕ → Option (List ℕ)
-record_at contents v n = if nat_lt n (contents.first v) then None else slice_get (contents.records v) (n - contents.first v)
+record_at contents v n =
+    if nat_lt n (contents.first v) then None else slice_get (contents.records v) (n - contents.first v)
 
 -- ---- changes of what is held
 

@@ -1,5 +1,6 @@
 -- What contracts see of the calls of a depot in memory: which are listed, how many were made, and their counts.
-use Rattle.std.specs.Prelude.{◌≡◌, ◌==◌, ◌&&◌, ℕ, ◌-◌, Bool, true, false, List, [], Result, Ok, Err, length, take, slice_index}
+use Rattle.std.specs.Prelude.{◌≡◌, ◌==◌, ◌&&◌, ℕ, ◌-◌, Bool, true, false, List, [], Result, Ok, Err, length, take}
+use Rattle.std.specs.Prelude.{slice_index}
 use Rattle.std.specs.Prelude.{if◌then◌else◌}
 use Rattle.std.specs.List.{list_any}
 use Rattle.ss_outside.specs.Faults.{next_count}

@@ -1,6 +1,5 @@
 -- What contracts see of inputs that are real files.
 use Rattle.std.specs.Prelude.{ℕ, List, Vec, Result, Ok, Err, nat_le, length, if◌then◌else◌}
-use Rattle.std.specs.declared.alloc.Global.{Global}
 use Rattle.ss_outside.specs.Told.{FileTold, untold, InputsTold}
 use Rattle.ss_outside.specs.declared.file_inputs.FileInputs.{FileInputs}
 use Rattle.ss_outside.specs.declared.inputs.InputFault.{InputFault}

@@ -6,4 +6,5 @@ pub mod FileOutputs
 pub mod MemDepot
 pub mod MemInputs
 pub mod MemOutputs
+pub mod Pieces
 pub mod Told

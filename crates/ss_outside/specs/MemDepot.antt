@@ -1,5 +1,6 @@
 -- What contracts see of a depot in memory.
-use Rattle.std.specs.Prelude.{◌≡◌, ◌==◌, ◌&&◌, ℕ, Bool, false, List, [], Vec, Option, None, IsSomeAnd, option_map, unwrap_or, slice_index}
+use Rattle.std.specs.Prelude.{◌≡◌, ◌==◌, ◌&&◌, ℕ, Bool, false, List, [], Vec, Option, None, IsSomeAnd, option_map}
+use Rattle.std.specs.Prelude.{unwrap_or, slice_index}
 use Rattle.std.specs.Prelude.{Result, OnOk, is_ok}
 use Rattle.std.specs.Option.{option_map_or}
 use Rattle.std.specs.Ordering.{nat_cmp}
@@ -27,7 +28,11 @@ frames_in maps v n = option_map_or (λ frames. frame_in frames n) (get nat_cmp m
 -- what it holds
 abbrev pub contents_held : MemDepot → Contents
 contents_held depot =
-    record { first = λ v. slice_index depot.firsts v; records = records_in depot.records; frames = frames_in depot.frames }
+    record {
+      first = λ v. slice_index depot.firsts v;
+      records = records_in depot.records;
+      frames = frames_in depot.frames;
+    }
 
 -- the calls that are listed and were made, with their counts
 abbrev pub calls_of : MemDepot → DepotCalls
@@ -60,10 +65,11 @@ KeepsAppends old new = (v : ℕ) → appended_to new v ≡ appended_to old v
 abbrev pub CallsAsListed : MemDepot → MemDepot → DepotCall → Bool → Type 0
 CallsAsListed old new which did_fail = MakesCall (calls_of old) (calls_of new) which did_fail false
 
--- a fetch or a load of what stands at this place: it fails exactly where it is listed, and gives all its bytes but where
--- it is listed as damaged
+-- a fetch or a load of what stands at this place: it fails exactly where it is listed, and gives all its bytes but
+-- where it is listed as damaged
 pub record GivesAsListed (old new : MemDepot) (which : DepotCall) (place : Option (List ℕ)) (bytes : List ℕ)
     (result : Result (Unit {0}) DepotFault) : Type 0 where
   pub given : OnOk result (IsSomeAnd place (λ held. bytes ≡ given_next (calls_of old) which held))
   pub calls :
-      MakesCall (calls_of old) (calls_of new) which (depot_failed result) (is_ok result && damages_next (calls_of old) which)
+      let was_short = is_ok result && damages_next (calls_of old) which in
+      MakesCall (calls_of old) (calls_of new) which (depot_failed result) was_short

@@ -1,5 +1,5 @@
 -- What contracts see of inputs in memory.
-use Rattle.std.specs.Prelude.{◌≡◌, ℕ, Bool, true, false, List, Result, Ok, Err, Option, Some, None, not, ◌||◌, is_some}
+use Rattle.std.specs.Prelude.{◌≡◌, ℕ, Bool, true, false, List, Result, Ok, Err, Option, not, ◌||◌, is_some}
 use Rattle.std.specs.Prelude.{option_map, if◌then◌else◌, bytes_eq, nat_eq}
 use Rattle.std.specs.List.{list_any}
 use Rattle.std.specs.Option.{option_map_or}
@@ -9,7 +9,7 @@ use Rattle.ss_outside.specs.declared.mem_inputs.MemInputs.{MemInputs}
 use Rattle.ss_outside.specs.declared.inputs.InputFault.{InputFault}
 use Rattle.ss_outside.specs.declared.inputs.InputFault.TheVariants.{Failed, Memory}
 use Rattle.ss_outside.specs.Faults.{next_count}
-use Rattle.ss_outside.specs.Told.{HeldFile, FileTold, missing, held, InputsTold, Reads, Releases}
+use Rattle.ss_outside.specs.Told.{HeldFile, FileTold, missing, held, InputsTold}
 
 abbrev pub held_file : MemFile → HeldFile
 held_file file = record { bytes = file.bytes.items; mark = file.mark; failures = file.failures }

@@ -1,6 +1,6 @@
 -- What contracts see of outputs in memory.
 use Rattle.std.specs.Prelude.{◌≡◌, ℕ, Bool, true, List, [], Option, Some, None, Result, Ok, Err, is_some, take}
-use Rattle.std.specs.Prelude.{option_map, if◌then◌else◌, find, nat_eq}
+use Rattle.std.specs.Prelude.{option_map, find, nat_eq}
 use Rattle.std.specs.Option.{option_map_or}
 use Rattle.std.specs.BTreeMap.{get_by_text}
 use Rattle.ss_outside.specs.declared.mem_outputs.MemOutputs.{MemOutputs}

@@ -99,7 +99,8 @@ pub record OutputsTold : Type 0 where
 abbrev pub bytes_behind : Bool → List ℕ → Option (List ℕ) → Option (List ℕ)
 bytes_behind here more had = if here then option_map (λ bytes. bytes ++ more) had else had
 
--- these bytes went behind what the name had, which stays one that was put to; no other name was put to, and no count fell
+-- these bytes went behind what the name had, which stays one that was put to; no other name was put to, and no count
+-- fell
 pub record Appends (old new : OutputsTold) (name more : List ℕ) : Type 0 where
   pub bytes : (other : List ℕ) →
       new.bytes other ≡ bytes_behind (bytes_eq other name) more (old.bytes other)

@@ -125,7 +125,8 @@ impl DepotCalls {
         bytes: &[u8],
         out: &mut Vec<u8>,
     ) -> Result<(), DepotFault>
-        ensures calls { MakesCall self.old self.new which (depot_failed result) (is_ok result && damages_next self.old which) }
+        ensures calls { let was_short = is_ok result && damages_next self.old which in
+            MakesCall self.old self.new which (depot_failed result) was_short }
         ensures rising_faults { self.old.faults ≤ self.new.faults }
         ensures rising_shorts { self.old.shorts ≤ self.new.shorts }
         ensures given { OnOk result (out.new.items ≡ given_next self.old which bytes.now) }

@@ -47,7 +47,8 @@ impl MemDepot {
 
     /// The call of that kind and number, from 1, is to fail.
     pub fn fail(&mut self, which: DepotCall, call: u64) -> Result<(), Memory>
-        ensures added { OnOk result (calls_listed (calls_of self.new) ≡ calls_listed (calls_of self.old) ++ (which, call) ∷ []) }
+        ensures added { OnOk result (calls_listed (calls_of self.new) ≡
+            calls_listed (calls_of self.old) ++ (which, call) ∷ []) }
         ensures kept { OnErr result (calls_listed (calls_of self.new) ≡ calls_listed (calls_of self.old)) }
         ensures damaged { calls_damaged (calls_of self.new) ≡ calls_damaged (calls_of self.old) }
         ensures others { OnlyLists self.old self.new }
@@ -58,7 +59,8 @@ impl MemDepot {
     /// The fetch or load of that number, from 1, is to answer short: without the last byte, if there is one.
     pub fn damage(&mut self, which: DepotCall, call: u64) -> Result<(), Memory>
         requires { gives_bytes which ≡ true }
-        ensures added { OnOk result (calls_damaged (calls_of self.new) ≡ calls_damaged (calls_of self.old) ++ (which, call) ∷ []) }
+        ensures added { OnOk result (calls_damaged (calls_of self.new) ≡
+            calls_damaged (calls_of self.old) ++ (which, call) ∷ []) }
         ensures kept { OnErr result (calls_damaged (calls_of self.new) ≡ calls_damaged (calls_of self.old)) }
         ensures listed { calls_listed (calls_of self.new) ≡ calls_listed (calls_of self.old) }
         ensures others { OnlyLists self.old self.new }
@@ -113,8 +115,10 @@ impl Depot for MemDepot {
     fn fetch(&mut self, v: u32, n: u64, out: &mut Vec<u8>) -> Result<(), DepotFault>
         requires vertex { v < 32 }
         requires held { IsSome (record_at (contents_held self.old) v n) }
-        ensures fetches { FetchesRecord (mem_depot_told self.old) (mem_depot_told self.new) v n out.old.items out.new.items result }
-        ensures listed { GivesAsListed self.old self.new DepotCall.Fetch (record_at (contents_held self.old) v n) out.new.items result }
+        ensures fetches { FetchesRecord (mem_depot_told self.old) (mem_depot_told self.new) v n
+            out.old.items out.new.items result }
+        ensures listed { let held = record_at (contents_held self.old) v n in
+            GivesAsListed self.old self.new DepotCall.Fetch held out.new.items result }
         ensures counted { KeepsAppends self.old self.new }
     {
         let bytes = record_of(&self.records, v, (n - self.firsts[v as usize]) as usize);
@@ -156,8 +160,10 @@ impl Depot for MemDepot {
     fn load(&mut self, v: u32, n: u64, out: &mut Vec<u8>) -> Result<(), DepotFault>
         requires vertex { v < 32 }
         requires held { IsSome ((contents_held self.old).frames v n) }
-        ensures loads { LoadsFrame (mem_depot_told self.old) (mem_depot_told self.new) v n out.old.items out.new.items result }
-        ensures listed { GivesAsListed self.old self.new DepotCall.Load ((contents_held self.old).frames v n) out.new.items result }
+        ensures loads { LoadsFrame (mem_depot_told self.old) (mem_depot_told self.new) v n
+            out.old.items out.new.items result }
+        ensures listed { let held = (contents_held self.old).frames v n in
+            GivesAsListed self.old self.new DepotCall.Load held out.new.items result }
         ensures counted { KeepsAppends self.old self.new }
     {
         let bytes = frame_of(&self.frames, v, n);
@@ -218,7 +224,8 @@ fn record_of(lists: &BTreeMap<u32, Records>, v: u32, place: usize) -> &[u8]
 
 /// Takes so many records of v away from the front.
 fn cut_records(lists: &mut BTreeMap<u32, Records>, v: u32, count: usize)
-    ensures { (w : ℕ) → records_in lists.new w ≡ replaced_at v (drop count (records_in lists.old v)) (records_in lists.old) w }
+    ensures { (w : ℕ) →
+        records_in lists.new w ≡ replaced_at v (drop count (records_in lists.old v)) (records_in lists.old) w }
 {
     match lists.get_mut(&v) {
         Some(records) => records.drop_front(count),
@@ -235,7 +242,8 @@ fn put_frame(
     bytes: &[u8],
 ) -> Result<(), Memory>
     ensures put { OnOk result ((w m : ℕ) →
-        frames_in maps.new w m ≡ replaced_at v (replaced_at n (Some bytes.now) (frames_in maps.old v)) (frames_in maps.old) w m) }
+        let with_frame = replaced_at n (Some bytes.now) (frames_in maps.old v) in
+        frames_in maps.new w m ≡ replaced_at v with_frame (frames_in maps.old) w m) }
     ensures kept { OnErr result ((w m : ℕ) → frames_in maps.new w m ≡ frames_in maps.old w m) }
 {
     let bytes = bytes.to_vec(alloc)?;
