@@ -56,11 +56,11 @@ fn row(start: u64, end: u64) -> Element {
     }
 }
 
-#[test]
-fn each_refusal_of_an_element_comes_in_its_order(rt: HostRuntime) {
-    const TOP: u64 = 1 << 63;
-    let five = valid_next(Bound::ZERO, &Element::Cti(5)).unwrap_or(Bound::ZERO);
-    let cases = [
+const TOP: u64 = 1 << 63;
+
+/// Bounds, elements that come after them, and the answers. `five` is the bound behind a cti of time 5.
+fn successions(five: Bound) -> [(Bound, Element, Result<Bound, NotNext>); 12] {
+    [
         (Bound::ZERO, row(0, 1), Ok(Bound::ZERO)),
         (five, row(5, TOP - 1), Ok(five)),
         (five, Element::End, Ok(Bound::TOP)),
@@ -81,9 +81,14 @@ fn each_refusal_of_an_element_comes_in_its_order(rt: HostRuntime) {
             Element::Cti(0),
             Err(NotNext::Backward { time: 0, bound: 0 }),
         ),
-    ];
+    ]
+}
+
+#[test]
+fn each_refusal_of_an_element_comes_in_its_order(rt: HostRuntime) {
+    let five = valid_next(Bound::ZERO, &Element::Cti(5)).unwrap_or(Bound::ZERO);
     assert_eq!(rt; five.get(), 5);
-    for (bound, element, answer) in cases {
+    for (bound, element, answer) in successions(five) {
         assert!(rt;
             valid_next(bound, &element) == answer,
             "{element:?} at {bound:?}"

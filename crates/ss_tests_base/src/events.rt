@@ -292,31 +292,37 @@ fn fault_of(alloc: Global, input: &[u8], late: Late) -> Option<EventFault> {
     }
 }
 
-#[test]
-fn files_have_their_lists(rt: HostRuntime) -> Result<(), Fail> {
-    for (input, want) in GOOD {
-        check_lines(&rt, rt.alloc(), input, Late::Refuse, want)?;
-    }
-    for (input, want) in DROPPED {
-        check_lines(&rt, rt.alloc(), input, Late::Drop, want)?;
+fn check_lists(
+    rt: &impl Abort,
+    alloc: Global,
+    cases: &[(&str, &str)],
+    late: Late,
+) -> Result<(), Fail> {
+    for (input, want) in cases {
+        check_lines(rt, alloc, input, late, want)?;
     }
     Ok(())
 }
 
+fn check_faults(rt: &impl Abort, alloc: Global, cases: &[(&str, u64, EventWhy)], late: Late) {
+    for (input, row, why) in cases {
+        let (row, why) = (*row, *why);
+        let fault = fault_of(alloc, input.as_bytes(), late);
+        assert_eq!(rt; fault, Some(EventFault { row, why }), "{input:?}");
+    }
+}
+
+#[test]
+fn files_have_their_lists(rt: HostRuntime) -> Result<(), Fail> {
+    check_lists(&rt, rt.alloc(), GOOD.as_slice(), Late::Refuse)?;
+    check_lists(&rt, rt.alloc(), DROPPED.as_slice(), Late::Drop)
+}
+
 #[test]
 fn files_have_their_first_fault(rt: HostRuntime) {
-    for (input, row, why) in BAD {
-        let fault = fault_of(rt.alloc(), input.as_bytes(), Late::Refuse);
-        assert_eq!(rt; fault, Some(EventFault { row, why }), "{input:?}");
-    }
-    for (input, row, why) in ORDER {
-        let fault = fault_of(rt.alloc(), input.as_bytes(), Late::Refuse);
-        assert_eq!(rt; fault, Some(EventFault { row, why }), "{input:?}");
-    }
-    for (input, row, why) in BAD_BESIDE_DROPPED {
-        let fault = fault_of(rt.alloc(), input.as_bytes(), Late::Drop);
-        assert_eq!(rt; fault, Some(EventFault { row, why }), "{input:?}");
-    }
+    check_faults(&rt, rt.alloc(), BAD.as_slice(), Late::Refuse);
+    check_faults(&rt, rt.alloc(), ORDER.as_slice(), Late::Refuse);
+    check_faults(&rt, rt.alloc(), BAD_BESIDE_DROPPED.as_slice(), Late::Drop);
 }
 
 const TOO_MANY: Option<EventFault> = Some(EventFault {

@@ -1,9 +1,8 @@
-//! The tests of the libraries below those of jobs, a module for each. A crate with tests is proved twice, with them
-//! and without, so they stand apart from what they test. A test calls what its library gives to all, and nothing else.
+//! The tests of the libraries of elements, expressions, event files, graphs and scripts, a module for each. A crate
+//! with tests is proved twice, with them and without, so they stand apart from what they test. A test calls what its
+//! library gives to all, and nothing else.
 #![tactic(auto)]
 
-#[cfg(test)]
-mod depot;
 #[cfg(test)]
 mod elem;
 #[cfg(test)]
@@ -13,12 +12,6 @@ mod expr;
 #[cfg(test)]
 mod fail;
 #[cfg(test)]
-mod files;
-#[cfg(test)]
-mod outside;
-#[cfg(test)]
 mod scripts;
-#[cfg(test)]
-mod turns;
 #[cfg(test)]
 mod water;

@@ -38,6 +38,24 @@ fn check_file<R: Files + AllocGlobal + Abort>(
     Ok(())
 }
 
+/// Looks at a name that can't be read.
+fn check_unread<R: Files + AllocGlobal + Abort>(rt: &R, name: &str) -> Result<(), Fail> {
+    let mut inputs = FileInputs::new(rt);
+    let mut left = b"before".to_vec(rt.alloc())?;
+    assert_eq!(rt; inputs.read(name, &mut left), Err(InputFault::Failed));
+    assert_eq!(rt; inputs.faults(), 1);
+    assert_eq!(rt; left.as_slice(), b"before".as_slice());
+    Ok(())
+}
+
+/// Puts texts to names in turn.
+fn put_all(rt: &impl Abort, outputs: &mut impl Outputs, puts: &[(&str, &[u8])]) {
+    for (name, text) in puts {
+        assert_eq!(rt; outputs.put(name, text), Ok(()));
+    }
+    assert_eq!(rt; outputs.faults(), 0);
+}
+
 /// Puts to two files in turn. The first put to a file makes it empty, and the later ones append.
 #[test]
 fn puts_to_two_files_are_read_back(rt: HostRuntime) -> Result<(), Fail> {
@@ -47,15 +65,17 @@ fn puts_to_two_files_are_read_back(rt: HostRuntime) -> Result<(), Fail> {
     let (one, two) = (first.as_str(), second.as_str());
     fs::write(&rt, one, b"an old text that is longer than what is put")?;
     let mut outputs = FileOutputs::new(&rt);
-    assert_eq!(rt; outputs.put(one, b"event,5,9,k,3,0\n"), Ok(()));
-    assert_eq!(rt; outputs.put(two, b"\x00\xff,"), Ok(()));
-    assert_eq!(rt; outputs.put(one, b"cti,10\n"), Ok(()));
+    let puts: [(&str, &[u8]); 3] = [
+        (one, b"event,5,9,k,3,0\n"),
+        (two, b"\x00\xff,"),
+        (one, b"cti,10\n"),
+    ];
+    put_all(&rt, &mut outputs, puts.as_slice());
     check_file(&rt, one, b"event,5,9,k,3,0\ncti,10\n")?;
-    assert_eq!(rt; outputs.put(two, b"\r\nend"), Ok(()));
-    assert_eq!(rt; outputs.put(two, b""), Ok(()));
+    let puts: [(&str, &[u8]); 2] = [(two, b"\r\nend"), (two, b"")];
+    put_all(&rt, &mut outputs, puts.as_slice());
     check_file(&rt, one, b"event,5,9,k,3,0\ncti,10\n")?;
     check_file(&rt, two, b"\x00\xff,\r\nend")?;
-    assert_eq!(rt; outputs.faults(), 0);
     assert_eq!(rt; names_in(&rt, folder.as_str())?, 2);
     fs::remove_dir_all(&rt, folder.as_str())?;
     Ok(())
@@ -94,51 +114,61 @@ fn a_long_file_is_read_whole(rt: HostRuntime) -> Result<(), Fail> {
     Ok(())
 }
 
-/// A file of the greatest size is read, and one with a byte more fails, which is not want of memory.
+/// Makes a file of zeros, and gives its name.
+fn file_of_size(rt: &HostRuntime, folder: &str, size: u64) -> Result<String, Fail> {
+    let name = file_in(rt.alloc(), folder, "in.csv")?;
+    let mut file = fs::create(rt, name.as_str())?;
+    file.set_len(size)?;
+    Ok(name)
+}
+
 #[test]
-fn a_file_above_the_limit_fails(rt: HostRuntime) -> Result<(), Fail> {
-    let folder = empty_folder(&rt, "limit")?;
-    let name = file_in(rt.alloc(), folder.as_str(), "in.csv")?;
+fn a_file_of_the_greatest_size_is_read(rt: HostRuntime) -> Result<(), Fail> {
+    let folder = empty_folder(&rt, "greatest")?;
+    let name = file_of_size(&rt, folder.as_str(), MOST)?;
     let mut inputs = FileInputs::new(&rt);
     let mut bytes = Vec::new(rt.alloc());
-    let mut file = fs::create(&rt, name.as_str())?;
-    file.set_len(MOST)?;
     assert_eq!(rt; inputs.read(name.as_str(), &mut bytes), Ok(()));
     assert_eq!(rt; bytes.len() as u64, MOST);
     assert_eq!(rt; inputs.faults(), 0);
-    file.set_len(MOST + 1)?;
-    let mut left = b"before".to_vec(rt.alloc())?;
-    assert_eq!(rt;
-        inputs.read(name.as_str(), &mut left),
-        Err(InputFault::Failed)
-    );
-    assert_eq!(rt; inputs.faults(), 1);
-    assert_eq!(rt; left.as_slice(), b"before".as_slice());
     fs::remove_dir_all(&rt, folder.as_str())?;
     Ok(())
 }
 
-/// A folder, a name in a folder that isn't there, and a missing file.
+/// A file with a byte more than the greatest size fails, which is not want of memory.
 #[test]
-fn what_is_no_file_fails(rt: HostRuntime) -> Result<(), Fail> {
-    let folder = empty_folder(&rt, "none")?;
+fn a_file_above_the_limit_fails(rt: HostRuntime) -> Result<(), Fail> {
+    let folder = empty_folder(&rt, "limit")?;
+    let name = file_of_size(&rt, folder.as_str(), MOST + 1)?;
+    check_unread(&rt, name.as_str())?;
+    fs::remove_dir_all(&rt, folder.as_str())?;
+    Ok(())
+}
+
+/// A folder, a missing file, and a name in a folder that isn't there.
+#[test]
+fn what_is_no_file_is_not_read(rt: HostRuntime) -> Result<(), Fail> {
+    let folder = empty_folder(&rt, "unread")?;
     let missing = file_in(rt.alloc(), folder.as_str(), "missing.csv")?;
     let deeper = file_in(rt.alloc(), folder.as_str(), "missing/in.csv")?;
-    let (folder, missing, deeper) = (folder.as_str(), missing.as_str(), deeper.as_str());
-    let mut inputs = FileInputs::new(&rt);
-    let mut outputs = FileOutputs::new(&rt);
-    let mut left = b"before".to_vec(rt.alloc())?;
-    let mut faults = 0u64;
-    for name in [folder, missing, deeper] {
-        faults = faults.saturating_add(1);
-        assert_eq!(rt; inputs.read(name, &mut left), Err(InputFault::Failed));
-        assert_eq!(rt; inputs.faults(), faults);
-        assert_eq!(rt; left.as_slice(), b"before".as_slice());
+    for name in [folder.as_str(), missing.as_str(), deeper.as_str()] {
+        check_unread(&rt, name)?;
     }
-    assert_eq!(rt; outputs.put(folder, b"x"), Err(PutFault::Failed));
-    assert_eq!(rt; outputs.put(deeper, b"x"), Err(PutFault::Failed));
+    fs::remove_dir(&rt, folder.as_str())?;
+    Ok(())
+}
+
+/// A folder, and a name in a folder that isn't there. Nothing is made.
+#[test]
+fn what_is_no_file_is_not_put_to(rt: HostRuntime) -> Result<(), Fail> {
+    let folder = empty_folder(&rt, "unput")?;
+    let deeper = file_in(rt.alloc(), folder.as_str(), "missing/in.csv")?;
+    let mut outputs = FileOutputs::new(&rt);
+    for name in [folder.as_str(), deeper.as_str()] {
+        assert_eq!(rt; outputs.put(name, b"x"), Err(PutFault::Failed));
+    }
     assert_eq!(rt; outputs.faults(), 2);
-    assert_eq!(rt; names_in(&rt, folder)?, 0);
-    fs::remove_dir(&rt, folder)?;
+    assert_eq!(rt; names_in(&rt, folder.as_str())?, 0);
+    fs::remove_dir(&rt, folder.as_str())?;
     Ok(())
 }

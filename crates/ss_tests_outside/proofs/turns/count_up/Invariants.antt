@@ -1,7 +1,7 @@
 -- The pass holds nothing between two rounds.
 use Rattle.std.proofs.Common.{◌≡◌, ◌≤◌, [], Some}
 use Rattle.ss_turns.specs.Values.{IsPassOf}
-use Rattle.ss_tests_base.proofs.turns.count_up.Given as goal
+use Rattle.ss_tests_outside.proofs.turns.count_up.Given as goal
 
 abbrev pub invariant-loop-round : goal.invariant-loop-round
 invariant-loop-round l = record {

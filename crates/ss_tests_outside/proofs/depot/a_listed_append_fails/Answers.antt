@@ -2,8 +2,8 @@
 use Rattle.std.proofs.Common.{◌≡◌, ℕ, ◌≤◌, IsSome, IsNone, ap, sym, subst, ◌∙◌, refl, arith}
 use Rattle.ss_outside.specs.Depot.{Contents, DepotTold, cut_to, next_number, no_contents, record_at, with_frame, with_record, without_frames_below}
 use Rattle.ss_outside.specs.MemDepot.{contents_held, mem_depot_told}
-use Rattle.ss_tests_base.proofs.Depots.{changed, discards-refused}
-use Rattle.ss_tests_base.proofs.depot.a_listed_append_fails.Goals as goal
+use Rattle.ss_tests_outside.proofs.Depots.{changed, discards-refused}
+use Rattle.ss_tests_outside.proofs.depot.a_listed_append_fails.Goals as goal
 
 pub append-requires-clause-next : goal.append-requires-clause-next
 append-requires-clause-next g c =

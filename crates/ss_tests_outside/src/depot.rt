@@ -21,29 +21,38 @@ fn a_listed_append_fails(rt: HostRuntime) -> Result<(), Fail> {
     Ok(())
 }
 
-/// The first fetch is listed, and leaves `out` as it was. The second lacks the last byte, the third is of a record
-/// that has none, and the fourth has all.
+/// The first fetch is listed, and leaves `out` as it was. The second has all.
 #[test]
-fn a_listed_fetch_fails_and_a_damaged_one_is_short(rt: HostRuntime) -> Result<(), Fail> {
+fn a_listed_fetch_fails(rt: HostRuntime) -> Result<(), Fail> {
     let mut depot = MemDepot::new(rt.alloc());
     depot.append(3, 0, b"one")?;
-    depot.append(3, 1, b"")?;
     depot.fail(DepotCall::Fetch, 1)?;
-    depot.damage(DepotCall::Fetch, 2)?;
-    depot.damage(DepotCall::Fetch, 3)?;
     let mut out = b"before".to_vec(rt.alloc())?;
     failed(depot.fetch(3, 0, &mut out))?;
     assert_eq!(rt; out.as_slice(), b"before".as_slice());
     assert_eq!(rt; (depot.faults(), depot.shorts()), (1, 0));
     depot.fetch(3, 0, &mut out)?;
+    assert_eq!(rt; out.as_slice(), b"one".as_slice());
+    assert_eq!(rt; (depot.faults(), depot.shorts()), (1, 0));
+    Ok(())
+}
+
+/// The first fetch lacks the last byte, the second is of a record that has none, and the third has all.
+#[test]
+fn a_damaged_fetch_is_short(rt: HostRuntime) -> Result<(), Fail> {
+    let mut depot = MemDepot::new(rt.alloc());
+    depot.append(3, 0, b"one")?;
+    depot.append(3, 1, b"")?;
+    depot.damage(DepotCall::Fetch, 1)?;
+    depot.damage(DepotCall::Fetch, 2)?;
+    let mut out = Vec::new(rt.alloc());
+    depot.fetch(3, 0, &mut out)?;
     assert_eq!(rt; out.as_slice(), b"on".as_slice());
-    assert_eq!(rt; (depot.faults(), depot.shorts()), (1, 1));
     depot.fetch(3, 1, &mut out)?;
     assert_eq!(rt; out.as_slice(), b"".as_slice());
-    assert_eq!(rt; (depot.faults(), depot.shorts()), (1, 2));
     depot.fetch(3, 0, &mut out)?;
     assert_eq!(rt; out.as_slice(), b"one".as_slice());
-    assert_eq!(rt; (depot.faults(), depot.shorts()), (1, 2));
+    assert_eq!(rt; (depot.faults(), depot.shorts()), (0, 2));
     Ok(())
 }
 
@@ -64,26 +73,51 @@ fn a_listed_cut_fails(rt: HostRuntime) -> Result<(), Fail> {
     Ok(())
 }
 
-/// The first call of each kind is listed. A drop below 8 leaves frame 8.
+/// The first keep is listed, and nothing of it is held.
 #[test]
-fn listed_calls_on_frames_fail(rt: HostRuntime) -> Result<(), Fail> {
+fn a_listed_keep_fails(rt: HostRuntime) -> Result<(), Fail> {
     let mut depot = MemDepot::new(rt.alloc());
     depot.fail(DepotCall::Keep, 1)?;
-    depot.fail(DepotCall::DropBelow, 1)?;
+    failed(depot.keep(3, 7, b"seven"))?;
+    depot.keep(3, 7, b"7")?;
+    let mut out = Vec::new(rt.alloc());
+    depot.load(3, 7, &mut out)?;
+    assert_eq!(rt; out.as_slice(), b"7".as_slice());
+    assert_eq!(rt; (depot.faults(), depot.shorts()), (1, 0));
+    Ok(())
+}
+
+/// The first load is listed, and the second lacks the last byte.
+#[test]
+fn a_listed_load_fails_and_a_damaged_one_is_short(rt: HostRuntime) -> Result<(), Fail> {
+    let mut depot = MemDepot::new(rt.alloc());
+    depot.keep(3, 7, b"seven")?;
     depot.fail(DepotCall::Load, 1)?;
     depot.damage(DepotCall::Load, 2)?;
-    failed(depot.keep(3, 7, b"seven"))?;
-    depot.keep(3, 7, b"seven")?;
-    depot.keep(3, 8, b"eight")?;
-    refused(depot.drop_below(3, 8))?;
-    let mut out = Vec::new(rt.alloc());
+    let mut out = b"before".to_vec(rt.alloc())?;
     failed(depot.load(3, 7, &mut out))?;
+    assert_eq!(rt; out.as_slice(), b"before".as_slice());
     depot.load(3, 7, &mut out)?;
     assert_eq!(rt; out.as_slice(), b"seve".as_slice());
+    assert_eq!(rt; (depot.faults(), depot.shorts()), (1, 1));
+    Ok(())
+}
+
+/// The first drop is listed. The second, below 8, leaves frame 8.
+#[test]
+fn a_listed_drop_fails(rt: HostRuntime) -> Result<(), Fail> {
+    let mut depot = MemDepot::new(rt.alloc());
+    depot.keep(3, 7, b"seven")?;
+    depot.keep(3, 8, b"eight")?;
+    depot.fail(DepotCall::DropBelow, 1)?;
+    refused(depot.drop_below(3, 8))?;
+    let mut out = Vec::new(rt.alloc());
+    depot.load(3, 7, &mut out)?;
+    assert_eq!(rt; out.as_slice(), b"seven".as_slice());
     depot.drop_below(3, 8)?;
     depot.load(3, 8, &mut out)?;
     assert_eq!(rt; out.as_slice(), b"eight".as_slice());
-    assert_eq!(rt; (depot.faults(), depot.shorts()), (3, 1));
+    assert_eq!(rt; depot.faults(), 1);
     Ok(())
 }
 

@@ -1,7 +1,7 @@
 -- What `of` says of the plan, at the first value.
 use Rattle.std.proofs.Common.{ap, ◌∙◌}
 use Rattle.std.specs.List.{slice_get}
-use Rattle.ss_tests_base.proofs.turns.two_threads_count_in_the_same_slots.Goals as goal
+use Rattle.ss_tests_outside.proofs.turns.two_threads_count_in_the_same_slots.Goals as goal
 
 pub count_up_beside-first-requires-clause-first : goal.count_up_beside-first-requires-clause-first
 count_up_beside-first-requires-clause-first g c =

@@ -130,6 +130,16 @@ fn a_taken_slot_is_refused_until_it_is_given_back(rt: HostRuntime) -> Result<(),
         panic!(rt; "the slot was given back")
     };
     turns.give(&mut second, 0, value);
+    Ok(())
+}
+
+#[test]
+fn turns_that_are_closed_give_each_value_once(rt: HostRuntime) -> Result<(), Fail> {
+    let values = counters(rt.alloc(), 5, 7)?;
+    let Ok((turns, mut first)) = Turns::of(rt.alloc(), values, 2) else {
+        panic!(rt; "no memory")
+    };
+    let mut second = turns.split(rt.alloc(), &mut first)?;
     assert!(rt; !turns.stopped(&mut first) && !turns.stopped(&mut second));
     turns.stop(&mut second);
     assert!(rt; turns.stopped(&mut first));

@@ -1,0 +1,12 @@
+//! The tests of what is outside of a program: files, inputs and outputs in memory, depots; and of slots that threads
+//! share.
+#![tactic(auto)]
+
+#[cfg(test)]
+mod depot;
+#[cfg(test)]
+mod files;
+#[cfg(test)]
+mod outside;
+#[cfg(test)]
+mod turns;
