@@ -2,7 +2,7 @@
 use Rattle.std.specs.Prelude.{◌≡◌, ℕ, pos, neg_ℤ, List, [], ◌∷◌, ◌++◌, length, take, replicate, Ok, Err}
 use Rattle.ss_meaning.specs.EntryExamples.{kept}
 use Rattle.ss_meaning.specs.Examples.{k}
-use Rattle.ss_join.specs.Images.{row_bytes, image}
+use Rattle.ss_image.specs.Images.{row_bytes, join_image}
 use Rattle.ss_join.specs.ImageTests.{image_read}
 use Rattle.ss_join.specs.States.{Sides}
 
@@ -21,7 +21,7 @@ one_left_image =
     ++ (zeros 7 ++ 1 ∷ []) ++ zeros 8
 
 abbrev pub OneRowSpelled : Type 0
-OneRowSpelled = image one_left_row ≡ one_left_image
+OneRowSpelled = join_image one_left_row.left one_left_row.right ≡ one_left_image
 
 abbrev pub FiftySixBytes : Type 0
 FiftySixBytes = length one_left_image ≡ 56

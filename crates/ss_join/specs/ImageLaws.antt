@@ -6,7 +6,7 @@ use Rattle.ss_elem.specs.Validity.{next_bound}
 use Rattle.ss_elem.specs.declared.element.Event.{Event}
 use Rattle.ss_elem.specs.declared.element.Element.TheVariants.{Row}
 use Rattle.ss_meaning.specs.Merge.{Arrival}
-use Rattle.ss_join.specs.Images.{image}
+use Rattle.ss_image.specs.Images.{join_image}
 use Rattle.ss_join.specs.ImageTests.{is_open_span, image_read}
 use Rattle.ss_join.specs.States.{Sides, StandsAfter, AreBoundsAfter}
 
@@ -26,7 +26,7 @@ abbrev pub SidesAreReadAgain : Type 0
 SidesAreReadAgain =
     (bounds : List ℕ) (sides : Sides) → length sides.left + length sides.right < 2 ^ 32
     → All (MayStand (slice_index bounds 1)) sides.left → All (MayStand (slice_index bounds 0)) sides.right
-    → image_read bounds (image sides) ≡ Ok sides
+    → image_read bounds (join_image sides.left sides.right) ≡ Ok sides
 
 -- a row of the program's type that may follow in a stream somewhere
 pub record IsTaken (row : Event) : Type 0 where
@@ -38,4 +38,4 @@ abbrev pub StatesAreReadAgain : Type 0
 StatesAreReadAgain =
     (sides : Sides) (p : List Arrival) (bounds : List ℕ) → StandsAfter sides p → AreBoundsAfter p bounds
     → All IsTaken sides.left → All IsTaken sides.right → length sides.left + length sides.right < 2 ^ 32
-    → image_read bounds (image sides) ≡ Ok sides
+    → image_read bounds (join_image sides.left sides.right) ≡ Ok sides

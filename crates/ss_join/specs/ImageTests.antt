@@ -1,15 +1,13 @@
 -- What bytes say as the image of a join, and which tests they have to pass.
-use Rattle.std.specs.Prelude.{◌≡◌, ℕ, zero, suc, ◌+◌, ◌*◌, ◌==◌, nat_lt, nat_le, Bool, ◌&&◌}
+use Rattle.std.specs.Prelude.{ℕ, zero, suc, ◌+◌, ◌*◌, ◌==◌, nat_lt, nat_le, Bool, ◌&&◌}
 use Rattle.std.specs.Prelude.{if◌then◌else◌, List, [], ◌∷◌, length, slice_index, take, drop}
 use Rattle.std.specs.Prelude.{Option, Some, None, Result, Ok, Err}
 use Rattle.std.specs.Int.{w64, cast_signed}
 use Rattle.std.specs.Option.{option_and_then, option_map_or}
 use Rattle.ss_elem.specs.Validity.{top}
 use Rattle.ss_elem.specs.declared.element.Event.{Event}
-use Rattle.ss_join.specs.Numbers.{number_at, key_in}
+use Rattle.ss_image.specs.Numbers.{number_at, key_in}
 use Rattle.ss_join.specs.States.{Sides}
-use Rattle.ss_join.specs.declared.image_fault.ImageFault.{ImageFault}
-use Rattle.ss_join.specs.declared.image_fault.ImageFault.TheVariants.{At, Memory}
 
 -- the row with this key that the first 48 bytes say
 abbrev pub row_in : ℕ → List ℕ → Event
@@ -74,8 +72,3 @@ image_read bounds bytes =
     then both_sides (rows_read (slice_index bounds 1) (left_count bytes) 8 (drop 8 bytes))
     (rows_read (slice_index bounds 0) (right_count bytes) (right_place bytes) (drop (right_place bytes) bytes))
     else Err 0
-
--- a fault is what should be answered, or want of memory
-abbrev pub Fails : {T : Type 0} → ImageFault → Result T ℕ → Type 0
-Fails (At at) read = read ≡ Err at
-Fails Memory read = Unit {0}

@@ -1,6 +1,4 @@
 pub mod States
-pub mod Numbers
-pub mod Images
 pub mod ImageTests
 pub mod ImageLaws
 pub mod ImageExamples

@@ -1,5 +1,5 @@
 -- What a join is at a moment.
-use Rattle.std.specs.Prelude.{◌≡◌, ℕ, ◌==◌, if◌then◌else◌, List, [], ◌∷◌, ◌++◌, map, slice_index, Some}
+use Rattle.std.specs.Prelude.{◌≡◌, ℕ, ◌==◌, if◌then◌else◌, List, [], ◌∷◌, ◌++◌, length, map, slice_index, Some}
 use Rattle.ss_elem.specs.Validity.{next_bound}
 use Rattle.ss_elem.specs.declared.element.Event.{Event}
 use Rattle.ss_elem.specs.declared.element.Element.{Element}
@@ -44,6 +44,12 @@ abbrev pub StepsFromAll : Sides → Sides → List Element → List Element → 
 StepsFromAll old new before after input x bounds =
     (p : List Arrival) → StandsAfter old p → MayFollow p (arrival input x)
     → AreBoundsAfter (p ++ arrival input x ∷ []) bounds → Steps new before after p (arrival input x)
+
+-- after each p after which the join stood and x may follow, the operator gives so many rows at x
+abbrev pub CountsGiven : Sides → ℕ → Element → ℕ → Type 0
+CountsGiven sides input x count =
+    (p : List Arrival) → StandsAfter sides p → MayFollow p (arrival input x)
+    → count ≡ length (rows_at Join 2 p (arrival input x))
 
 -- what is remembered of the input that isn't this one
 abbrev pub other_side : ℕ → Sides → List Event

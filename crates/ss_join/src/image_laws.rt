@@ -2,6 +2,8 @@ ghost use Rattle.ss_join.specs.ImageExamples.{OneRowSpelled, FiftySixBytes, Nega
 ghost use Rattle.ss_join.specs.ImageExamples.{OneByteFewer, EndedRow};
 ghost use Rattle.ss_join.specs.ImageLaws.{SidesAreReadAgain, StatesAreReadAgain};
 
+use ss_image::numbers_are_read_again;
+
 /// Images of small joins, and what bytes near them say.
 pub fn image_examples()
     ensures one_row { OneRowSpelled }
@@ -16,4 +18,6 @@ pub fn image_examples()
 pub fn images_are_read_again()
     ensures sides { SidesAreReadAgain }
     ensures states { StatesAreReadAgain }
-{}
+{
+    numbers_are_read_again();
+}

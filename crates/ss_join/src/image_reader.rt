@@ -1,9 +1,9 @@
 ghost use Rattle.std.specs.Prelude.{◌≡◌, ◌+◌, ◌*◌, ◌^◌, ◌≤◌, Ok, length, IfOk, IfErr};
-ghost use Rattle.ss_join.specs.ImageTests.{is_open_span, row_read, rows_read, image_read, Fails};
+ghost use Rattle.ss_image.specs.Faults.{Fails};
+ghost use Rattle.ss_join.specs.ImageTests.{is_open_span, row_read, rows_read, image_read};
 
-use crate::image_fault::ImageFault;
-use crate::numbers::{i64_at, read_key, u32_at, u64_at};
 use ss_elem::Event;
+use ss_image::{ImageFault, i64_at, read_key, u32_at, u64_at};
 use std::alloc::Global;
 
 const COUNTS_LEN: usize = 8;

@@ -1,10 +1,10 @@
 ghost use Rattle.std.specs.Prelude.{◌≡◌, ◌+◌, ◌*◌, ◌^◌, ◌<◌, ◌≤◌, ◌++◌, length, OnOk, OnErr};
 ghost use Rattle.std.specs.Prelude.{vec_len, vec_capacity};
 ghost use Rattle.std.specs.List.{flat_map};
-ghost use Rattle.ss_join.specs.Images.{row_bytes, image};
+ghost use Rattle.ss_image.specs.Images.{row_bytes, join_image};
 
-use crate::numbers::{bytes_of_i64, bytes_of_key, bytes_of_u32, bytes_of_u64};
 use ss_elem::Event;
+use ss_image::{bytes_of_i64, bytes_of_key, bytes_of_u32, bytes_of_u64};
 use std::alloc::AllocError;
 
 const COUNTS_LEN: usize = 8;
@@ -18,7 +18,7 @@ pub(crate) fn put_image(
     right: &[Event],
 ) -> Result<(), AllocError>
     requires { length left.now + length right.now < 2 ^ 32 }
-    ensures ok { OnOk result (out.new.items ≡ out.old.items ++ image (record { left = left.now; right = right.now })) }
+    ensures ok { OnOk result (out.new.items ≡ out.old.items ++ join_image left.now right.now) }
     ensures err { OnErr result (out.new.items ≡ out.old.items) }
 {
     out.reserve(COUNTS_LEN + ROW_LEN * (left.len() + right.len()))?;

@@ -1,13 +1,15 @@
-ghost use Rattle.std.specs.Prelude.{◌≡◌, ◌+◌, ◌^◌, ◌<◌, ◌++◌, [], length, OnOk, OnErr, IfOk, IfErr, Ok};
-ghost use Rattle.ss_join.specs.Images.{image};
-ghost use Rattle.ss_join.specs.ImageTests.{image_read, Fails};
-ghost use Rattle.ss_join.specs.States.{StandsAfter, StepsFromAll, with_row, without_ended, given_at};
+ghost use Rattle.std.specs.Prelude.{◌≡◌, ◌+◌, ◌^◌, ◌<◌, ◌≤◌, ◌++◌, [], length, OnOk, OnErr, IfOk, IfErr, Ok};
+ghost use Rattle.ss_image.specs.Images.{join_image};
+ghost use Rattle.ss_image.specs.Faults.{Fails};
+ghost use Rattle.ss_join.specs.ImageTests.{image_read};
+ghost use Rattle.ss_join.specs.States.{StandsAfter, StepsFromAll, CountsGiven, with_row, without_ended, given_at};
 
-use crate::image_fault::ImageFault;
 use crate::image_reader::read_image;
 use crate::image_writer::put_image;
+use crate::pairs::count;
 use crate::side::{forget, take_row};
 use ss_elem::{Element, Event, Out};
+use ss_image::ImageFault;
 use ss_meaning::join_sides_follow;
 use std::alloc::{AllocError, Global};
 use std::marker::Model;
@@ -42,7 +44,7 @@ impl Join {
     }
 
     /// Takes the next element, and appends the rows that the join gives at it. `bounds` are those of the inputs after
-    /// the element, in their order.
+    /// the element, in their order. A place is left for what is given behind the rows.
     ///
     /// An error is want of memory.
     pub fn step(
@@ -54,20 +56,29 @@ impl Join {
     ) -> Result<(), AllocError>
         requires { input < 2 }
         ensures ok { OnOk result (StepsFromAll self.old self.new out.old.elements out.new.elements input x.now bounds) }
+        ensures place { OnOk result (1 ≤ out.new.spare) }
         ensures err { OnErr result (self.new ≡ self.old) }
         ensures err_out { OnErr result (out.new.elements ≡ out.old.elements) }
     {
         join_sides_follow();
         match x {
             Element::Row(row) => self.take_row(input, row, bounds, out),
-            Element::Cti(_) => {
-                self.forget_ended(input, bounds);
-                Ok(())
-            }
-            Element::End => {
-                self.forget_ended(input, bounds);
-                Ok(())
-            }
+            Element::Cti(_) => self.take_rise(input, bounds, out),
+            Element::End => self.take_rise(input, bounds, out),
+        }
+    }
+
+    /// How many rows a step would give at an element of this input, without making it.
+    pub fn count_given(&self, input: u32, x: &Element) -> u64
+        requires { input < 2 }
+        ensures given { CountsGiven self.now input x.now result }
+        ensures few { result < 2 ^ 63 }
+    {
+        join_sides_follow();
+        match x {
+            Element::Row(row) => self.count_matches(input, row),
+            Element::Cti(_) => 0,
+            Element::End => 0,
         }
     }
 
@@ -83,7 +94,7 @@ impl Join {
     /// An error is want of memory.
     pub fn image(&self, out: &mut Vec<u8>) -> Result<(), AllocError>
         requires { length self.now.left + length self.now.right < 2 ^ 32 }
-        ensures ok { OnOk result (out.new.items ≡ out.old.items ++ image self.now) }
+        ensures ok { OnOk result (out.new.items ≡ out.old.items ++ join_image self.now.left self.now.right) }
         ensures err { OnErr result (out.new.items ≡ out.old.items) }
     {
         put_image(out, &self.left, &self.right)
@@ -98,6 +109,18 @@ impl Join {
         Ok(Join { left, right })
     }
 
+    /// How many remembered rows of the other input a row of this one joins.
+    fn count_matches(&self, input: u32, row: &Event) -> u64
+        ensures given { result ≡ length (given_at input row.now self.now) }
+        ensures few { result < 2 ^ 63 }
+    {
+        if input == 0 {
+            count(row, &self.right)
+        } else {
+            count(row, &self.left)
+        }
+    }
+
     /// Gives what the row joins, and keeps it.
     fn take_row(
         &mut self,
@@ -108,6 +131,7 @@ impl Join {
     ) -> Result<(), AllocError>
         ensures kept { OnOk result (self.new ≡ with_row input row.now bounds self.old) }
         ensures given { OnOk result (out.new.elements ≡ out.old.elements ++ given_at input row.now self.old) }
+        ensures place { OnOk result (1 ≤ out.new.spare) }
         ensures err { OnErr result (self.new ≡ self.old) }
         ensures err_out { OnErr result (out.new.elements ≡ out.old.elements) }
     {
@@ -119,13 +143,18 @@ impl Join {
     }
 
     /// Forgets the rows of the other input that end at this input's bound or before it.
-    fn forget_ended(&mut self, input: u32, bounds: [u64; 8])
-        ensures { self.new ≡ without_ended input bounds self.old }
+    fn take_rise(&mut self, input: u32, bounds: [u64; 8], out: &mut Out) -> Result<(), AllocError>
+        ensures kept { OnOk result (self.new ≡ without_ended input bounds self.old) }
+        ensures out { out.new.elements ≡ out.old.elements }
+        ensures place { OnOk result (1 ≤ out.new.spare) }
+        ensures err { OnErr result (self.new ≡ self.old) }
     {
+        out.reserve(1)?;
         if input == 0 {
             forget(&mut self.right, bounds[0]);
         } else {
             forget(&mut self.left, bounds[1]);
         }
+        Ok(())
     }
 }

@@ -1,15 +1,13 @@
 //! Temporal joins, one element at a time.
 #![tactic(auto)]
 
-mod image_fault;
 mod image_laws;
 mod image_reader;
 mod image_writer;
 mod join;
-mod numbers;
 mod pairs;
 mod side;
 
-pub use image_fault::ImageFault;
 pub use image_laws::{image_examples, images_are_read_again};
 pub use join::Join;
+pub use ss_image::ImageFault;

@@ -1,4 +1,4 @@
-ghost use Rattle.std.specs.Prelude.{◌≡◌, ◌++◌, [], ◌∷◌, OnOk, OnErr};
+ghost use Rattle.std.specs.Prelude.{◌≡◌, ◌≤◌, ◌++◌, [], ◌∷◌, OnOk, OnErr};
 ghost use Rattle.ss_join.specs.States.{joined_elements};
 ghost use Rattle.ss_meaning.specs.Entries.{rows_ending_above};
 
@@ -18,11 +18,12 @@ pub(crate) fn take_row(
 ) -> Result<(), AllocError>
     ensures kept { OnOk result (own.new.items ≡ own.old.items ++ rows_ending_above bound (row.now ∷ [])) }
     ensures given { OnOk result (out.new.elements ≡ out.old.elements ++ joined_elements input row.now other.now) }
+    ensures place { OnOk result (1 ≤ out.new.spare) }
     ensures err { OnErr result (own.new.items ≡ own.old.items) }
     ensures err_out { OnErr result (out.new.elements ≡ out.old.elements) }
 {
     own.reserve(1)?;
-    out.reserve(other.len() as u64)?;
+    out.reserve(other.len() as u64 + 1)?;
     give(input, row, other, out);
     if row.end > bound {
         own.push_reserved(*row);

@@ -11,7 +11,7 @@ use Rattle.ss_meaning.specs.Merge.{merge, from_input}
 use Rattle.ss_meaning.specs.Emit.{Kind, output}
 use Rattle.ss_meaning.specs.Meaning.{Vertex, Source, Inner, Sink, reads, stream, streams_at, streams_after, meaning, vertex}
 use Rattle.ss_meaning.specs.Jobs.{IsBefore, Takes, MayStand, IsJob}
-use Rattle.ss_meaning.specs.Laws.{MeaningByInputs, MeaningIsWhole}
+use Rattle.ss_meaning.specs.Laws.{MeaningByInputs, MeaningIsWhole, MeaningIsEarly}
 use Rattle.ss_meaning.proofs.Each.{each-map, each_weaker}
 use Rattle.ss_meaning.proofs.Merging.{merge_keeps_each_input}
 use Rattle.ss_meaning.proofs.Outputs.{operator_whole, at_least_one}
@@ -157,3 +157,9 @@ meaning_is_whole job h v k =
     let fine = all_fine [] job 0 refl (omega (arith, h.few)) (standing_job job h) (λ u l. absurd (omega arith)) v (omega arith) in
     let few = h.few in
     (fine.0, All-from_recursion (IsBefore (2 ^ 63)) (meaning job v) (all_later (limit v) (2 ^ 63) (meaning job v) (omega arith) fine.1))
+
+pub meaning_is_early : MeaningIsEarly
+meaning_is_early job h v k =
+    let few = h.few in
+    let fine = all_fine [] job 0 refl (omega arith) (standing_job job h) (λ u l. absurd (omega arith)) v (omega arith) in
+    All-from_recursion (IsBefore (limit v)) (meaning job v) fine.1

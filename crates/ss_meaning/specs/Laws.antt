@@ -133,6 +133,12 @@ MeaningIsWhole =
     (job : List Vertex) → IsJob job → (v : ℕ) → v < length job
     → Whole (meaning job v) × All (IsBefore (2 ^ 63)) (meaning job v)
 
+-- and they leave room below it: a source's are below 2^62, and each vertex adds at most 2^47
+abbrev pub MeaningIsEarly : Type 0
+MeaningIsEarly =
+    (job : List Vertex) → IsJob job → (v : ℕ) → v < length job
+    → All (IsBefore (2 ^ 62 + 2 ^ 47 * v)) (meaning job v)
+
 -- an arrival changes the bound of its own input alone
 abbrev pub BoundsAfterArrival : Type 0
 BoundsAfterArrival =
@@ -158,4 +164,5 @@ NextInputArrives =
 
 -- segments that stand in the order of bounds and inputs, and where both are equal as before, are in order
 abbrev pub SortedIsInOrder : Type 0
-SortedIsInOrder = (ss ts : List Segment) → IsSortedBy precedes ts → IsStableBy precedes ss ts → ts ≡ segments_in_order ss
+SortedIsInOrder =
+    (ss ts : List Segment) → IsSortedBy precedes ts → IsStableBy precedes ss ts → ts ≡ segments_in_order ss

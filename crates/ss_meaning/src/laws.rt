@@ -2,7 +2,7 @@ ghost use Rattle.ss_meaning.specs.Laws.{BoundOfValid, MergeKeepsEachInput, Arriv
 ghost use Rattle.ss_meaning.specs.Laws.{LeastBoundGoesNext, LowIsBelowBounds, LowNeverFalls, LowIsTopAtTheEnd};
 ghost use Rattle.ss_meaning.specs.Laws.{WindowEndsHaveRows, WindowKeysHaveRows};
 ghost use Rattle.ss_meaning.specs.Laws.{OutputGrowsByEmit, OutputOnlyGrows, PositionsAddUp, PositionsNeverFall};
-ghost use Rattle.ss_meaning.specs.Laws.{OutNeverFalls, OutAtTheEnd, MeaningByInputs, MeaningIsWhole};
+ghost use Rattle.ss_meaning.specs.Laws.{OutNeverFalls, OutAtTheEnd, MeaningByInputs, MeaningIsWhole, MeaningIsEarly};
 ghost use Rattle.ss_meaning.specs.Laws.{BoundsAfterArrival, CountsAfterArrival, LowIsTheLeastBound};
 ghost use Rattle.ss_meaning.specs.Laws.{NextInputArrives, SortedIsInOrder};
 
@@ -62,6 +62,11 @@ pub fn meaning_is_made_of_the_inputs()
 /// The stream of each vertex of each job keeps the rules of a stream, ends, and has times below 2^63.
 pub fn meaning_is_whole()
     ensures { MeaningIsWhole }
+{}
+
+/// The times of each vertex's stream are so far below 2^63 that no operator's own times pass it.
+pub fn meaning_is_early()
+    ensures { MeaningIsEarly }
 {}
 
 /// The bounds of the inputs tell how far all of them have come and which one goes next, and each arrival changes

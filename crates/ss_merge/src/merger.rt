@@ -1,4 +1,4 @@
-ghost use Rattle.std.specs.Prelude.{◌≡◌, ◌≤◌, ◌<◌, ◌^◌, [], length, take, All, IfSome, IsSome, IsNone, ◌↔◌, Some};
+ghost use Rattle.std.specs.Prelude.{◌≡◌, ◌≤◌, ◌<◌, ◌^◌, ℕ, [], length, take, All, IfSome, IsSome, IsNone, ◌↔◌, Some};
 ghost use Rattle.std.specs.Prelude.{slice_index};
 ghost use Rattle.ss_elem.specs.Validity.{top, next_bound};
 ghost use Rattle.ss_meaning.specs.Bound.{bound_after};
@@ -63,6 +63,17 @@ impl Merger {
         }
     }
 
+    /// The same once more.
+    pub fn copied(&self) -> Merger
+        ensures { result ≡ self.now }
+    {
+        Merger {
+            width: self.width,
+            bounds: self.bounds,
+            positions: self.positions,
+        }
+    }
+
     /// The input of the next element, or `None` exactly where all inputs have ended.
     pub fn choose(&self) -> Option<u32>
         ensures input { result ≡ next_input self.now.bounds }
@@ -121,6 +132,16 @@ impl Merger {
         ensures { result ≡ slice_index self.now.bounds i }
     {
         Bound::at(self.bounds[i as usize])
+    }
+
+    /// The bounds of all inputs in their order, and 0 behind them.
+    pub fn bounds(&self) -> [u64; MOST_INPUTS]
+        ensures { (input : ℕ) → slice_index result input ≡ slice_index self.now.bounds input }
+    {
+        let mut all = [0; MOST_INPUTS];
+        let width = self.width as usize;
+        all[..width].copy_from_slice(&self.bounds[..width]);
+        all
     }
 }
 

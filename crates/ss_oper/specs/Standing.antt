@@ -1,5 +1,5 @@
 -- Where an operator stands, and what one step of it is.
-use Rattle.std.specs.Prelude.{◌≡◌, ℕ, ◌^◌, ◌<◌, ◌≤◌, Bool, true, false, List, [], ◌∷◌, ◌++◌, length, All}
+use Rattle.std.specs.Prelude.{◌≡◌, ℕ, ◌<◌, ◌≤◌, List, [], ◌∷◌, ◌++◌, length, All}
 use Rattle.std.specs.Prelude.{Result, Ok, Err}
 use Rattle.ss_elem.specs.declared.element.Element.{Element}
 use Rattle.ss_expr.specs.Operators.{operator_of}
@@ -7,28 +7,21 @@ use Rattle.ss_expr.specs.declared.stream_operator.Spec.{Spec}
 use Rattle.ss_expr.specs.declared.stream_operator.Spec.TheVariants.{Select, Union, Window, Join}
 use Rattle.ss_meaning.specs.Emit.{Kind, emit}
 use Rattle.ss_meaning.specs.Entries.{Entries, NoEntries, WindowEntries, JoinRows, WindowEntry, entries_after}
+use Rattle.ss_join.specs.ImageTests as join
+use Rattle.ss_join.specs.States.{Sides, MayFollow}
+use Rattle.ss_meaning.specs.Inputs.{least_bound}
 use Rattle.ss_meaning.specs.Jobs.{Takes}
 use Rattle.ss_meaning.specs.Low.{low}
 use Rattle.ss_meaning.specs.Merge.{Arrival}
 use Rattle.ss_merge.specs.Merging.{MergerState, StandsAfter, arriving}
-use Rattle.ss_window.specs.ImageTests.{image_read}
-use Rattle.ss_window.specs.Images.{image}
+use Rattle.ss_window.specs.ImageTests as window
 use Rattle.ss_window.specs.States.{CountsFew}
-use Rattle.ss_window.specs.declared.image_fault.ImageFault.{ImageFault}
-use Rattle.ss_window.specs.declared.image_fault.ImageFault.TheVariants.{At, Memory}
 
 -- what an operator computes, how far all its inputs have come, and what it remembers
 pub record OperState : Type 0 where
   pub spec : Spec
   pub low : ℕ
   pub entries : Entries
-
--- joins are no operators of the program yet
-abbrev pub is_built : Spec → Bool
-is_built (Select test a b) = true
-is_built Union = true
-is_built (Window size hop agg of) = true
-is_built Join = false
 
 -- the operator, with so many inputs, is where it is after p
 pub record OperStandsAfter (inputs : ℕ) (p : List Arrival) (state : OperState) : Type 0 where
@@ -39,10 +32,12 @@ pub record OperStandsAfter (inputs : ℕ) (p : List Arrival) (state : OperState)
 abbrev pub StandsBeforeAll : OperState → Type 0
 StandsBeforeAll state = (inputs : ℕ) → 1 ≤ inputs → OperStandsAfter inputs [] state
 
--- x may arrive after p: the operator takes so many inputs, x is of one of them, and Low doesn't fall
+-- x may arrive after p: the operator takes so many inputs, x is of one of them and may follow in it, and Low doesn't
+-- fall
 pub record MayArrive (kind : Kind) (inputs : ℕ) (p : List Arrival) (x : Arrival) : Type 0 where
   pub takes : Takes kind inputs
   pub within : x.input < inputs
+  pub follows : MayFollow p x
   pub rises : low inputs p ≤ low inputs (p ++ x ∷ [])
 
 -- after p and then x, the operator is where it is there, and the elements grew by exactly what it gives at x
@@ -59,36 +54,39 @@ Steps merger input x old new before after =
     → StandsAfter merger (p ++ arriving input x ∷ [])
     → StepsAt (length merger.bounds) p (arriving input x) old new before after
 
+-- wherever the operator stands, x may arrive, and the merger stands then behind x of this input, so many elements are
+-- given at x
+abbrev pub CountsGiven : MergerState → ℕ → Element → OperState → ℕ → Type 0
+CountsGiven merger input x state count =
+    (p : List Arrival) → OperStandsAfter (length merger.bounds) p state
+    → MayArrive (operator_of state.spec) (length merger.bounds) p (arriving input x)
+    → StandsAfter merger (p ++ arriving input x ∷ [])
+    → count ≡ length (emit (operator_of state.spec) (length merger.bounds) p (arriving input x))
+
 -- no entry of a window counts 2^62 rows
 abbrev pub CountFew : Entries → Type 0
 CountFew NoEntries = Unit {0}
 CountFew (WindowEntries es) = All CountsFew es
 CountFew (JoinRows left right) = Unit {0}
 
--- the bytes of what is remembered; nothing is none, and joins have none yet
-abbrev pub image_of : Entries → List ℕ
-image_of NoEntries = []
-image_of (WindowEntries es) = image es
-image_of (JoinRows left right) = []
-
 -- the entries of a window as what is remembered
 abbrev pub as_window : Result (List WindowEntry) ℕ → Result Entries ℕ
 as_window (Ok es) = Ok (WindowEntries es)
 as_window (Err at) = Err at
+
+-- the rows of a join as what is remembered
+abbrev pub as_join : Result Sides ℕ → Result Entries ℕ
+as_join (Ok sides) = Ok (JoinRows sides.left sides.right)
+as_join (Err at) = Err at
 
 -- where nothing is remembered there are no bytes
 abbrev pub nothing_in : List ℕ → Result Entries ℕ
 nothing_in [] = Ok NoEntries
 nothing_in (b ∷ bytes) = Err 0
 
--- what the bytes say is remembered, where Low is so much, or the place of the first fault
-abbrev pub remembered : Spec → ℕ → List ℕ → Result Entries ℕ
-remembered (Select test a b) bound bytes = nothing_in bytes
-remembered Union bound bytes = nothing_in bytes
-remembered (Window size hop agg of) bound bytes = as_window (image_read hop agg bound bytes)
-remembered Join bound bytes = nothing_in bytes
-
--- a fault is what should be answered, or want of memory
-abbrev pub Fails : ImageFault → Result Entries ℕ → Type 0
-Fails (At at) read = read ≡ Err at
-Fails Memory read = Unit {0}
+-- what the bytes say is remembered, where the inputs have these bounds, or the place of the first fault
+abbrev pub remembered : Spec → List ℕ → List ℕ → Result Entries ℕ
+remembered (Select test a b) bounds bytes = nothing_in bytes
+remembered Union bounds bytes = nothing_in bytes
+remembered (Window size hop agg of) bounds bytes = as_window (window.image_read hop agg (least_bound bounds) bytes)
+remembered Join bounds bytes = as_join (join.image_read bounds bytes)

@@ -1,15 +1,20 @@
-ghost use Rattle.std.specs.Prelude.{◌≡◌, ◌≤◌, ◌^◌, true, IfOk, IfErr, Ok, OnOk, OnErr, Err};
+ghost use Rattle.std.specs.Prelude.{◌≡◌, ◌<◌, ◌≤◌, ◌^◌, true, IfOk, IfErr, Ok, OnOk, OnErr, Err};
 ghost use Rattle.ss_expr.specs.Operators.{IsComputable};
+ghost use Rattle.ss_image.specs.Faults.{Fails};
+ghost use Rattle.ss_image.specs.declared.image_fault.ImageFault.TheVariants.{At};
 ghost use Rattle.ss_meaning.specs.Jobs.{IsBefore};
-ghost use Rattle.ss_oper.specs.Kept.{GivesRows, IsKept, RemembersNothing, entries_kept, spec_kept};
-ghost use Rattle.ss_oper.specs.Standing.{CountFew, Fails, is_built, nothing_in, remembered};
+ghost use Rattle.ss_oper.specs.Kept.{CountsRows, GivesRows, IsKept, RemembersNothing, entries_kept, spec_kept};
+ghost use Rattle.ss_oper.specs.Standing.{CountFew, nothing_in, remembered};
 ghost use Rattle.ss_meaning.specs.Entries.{NoEntries};
-ghost use Rattle.ss_window.specs.declared.image_fault.ImageFault.TheVariants.{At};
 
 use crate::given::push_row;
 use ss_elem::{Bound, Element, Out};
 use ss_expr::{Spec, row_given};
-use ss_window::{ImageFault, Window};
+use ss_image::ImageFault;
+use ss_join::Join;
+use ss_meaning::entries_follow;
+use ss_merge::Merger;
+use ss_window::Window;
 use std::alloc::{AllocError, Global};
 
 /// What is kept of an operator between elements.
@@ -19,12 +24,13 @@ pub(crate) enum Kept {
     RowByRow(Spec),
     /// A window, with what it remembers.
     Hopping(Window),
+    /// A join, with what it remembers.
+    Joining(Join),
 }
 
 /// What is kept of the operator before any element.
 pub(crate) fn kept_before_all(alloc: Global, spec: &Spec) -> Result<Kept, AllocError>
-    requires built { is_built spec.now ≡ true }
-    requires computable { IsComputable spec.now }
+    requires { IsComputable spec.now }
     ensures kept { IfOk result IsKept }
     ensures spec { IfOk result (λ kept. spec_kept kept ≡ spec.now) }
     ensures nothing { IfOk result RemembersNothing }
@@ -36,26 +42,26 @@ pub(crate) fn kept_before_all(alloc: Global, spec: &Spec) -> Result<Kept, AllocE
         }
         Spec::Select { .. } => Ok(Kept::RowByRow(spec.copied(alloc)?)),
         Spec::Union => Ok(Kept::RowByRow(Spec::Union)),
-        Spec::Join => unreachable!(),
+        Spec::Join => Ok(Kept::Joining(Join::new(alloc))),
     }
 }
 
-/// What is kept of the operator whose image these bytes are, where Low is `low`.
+/// What is kept of the operator whose image these bytes are, where the merge of its inputs stands so.
 pub(crate) fn kept_of_image(
     alloc: Global,
     spec: &Spec,
-    low: Bound,
+    merger: &Merger,
     bytes: &[u8],
 ) -> Result<Kept, ImageFault>
-    requires built { is_built spec.now ≡ true }
-    requires computable { IsComputable spec.now }
+    requires { IsComputable spec.now }
     ensures kept { IfOk result IsKept }
     ensures spec { IfOk result (λ kept. spec_kept kept ≡ spec.now) }
-    ensures ok { IfOk result (λ kept. remembered spec.now low bytes.now ≡ Ok (entries_kept kept)) }
-    ensures fault { IfErr result (λ e. Fails e (remembered spec.now low bytes.now)) }
+    ensures ok { IfOk result (λ kept. remembered spec.now merger.now.bounds bytes.now ≡ Ok (entries_kept kept)) }
+    ensures fault { IfErr result (λ e. Fails e (remembered spec.now merger.now.bounds bytes.now)) }
 {
     match spec {
         Spec::Window { size, hop, agg, of } => {
+            let low = merger.low();
             let window = Window::of_image(alloc, *size, *hop, *agg, *of, low, bytes)?;
             Ok(Kept::Hopping(window))
         }
@@ -67,7 +73,7 @@ pub(crate) fn kept_of_image(
             refuse_any(bytes)?;
             Ok(Kept::RowByRow(Spec::Union))
         }
-        Spec::Join => unreachable!(),
+        Spec::Join => Ok(Kept::Joining(Join::of_image(alloc, merger.bounds(), bytes)?)),
     }
 }
 
@@ -83,12 +89,14 @@ fn refuse_any(bytes: &[u8]) -> Result<(), ImageFault>
     }
 }
 
-/// Takes an element and appends the rows that the operator gives at it. `low` is Low after the element. A place is
-/// left for what is given behind the rows.
+/// Takes an element of this input and appends the rows that the operator gives at it. `low` is Low after the element,
+/// and `bounds` are those of the inputs. A place is left for what is given behind the rows.
 pub(crate) fn give_rows(
     kept: &mut Kept,
+    input: u32,
     x: &Element,
     low: Bound,
+    bounds: [u64; 8],
     out: &mut Out,
 ) -> Result<(), AllocError>
     requires kept { IsKept kept.old }
@@ -96,7 +104,8 @@ pub(crate) fn give_rows(
     requires few { CountFew (entries_kept kept.old) }
     ensures kept { IsKept kept.new }
     ensures spec { spec_kept kept.new ≡ spec_kept kept.old }
-    ensures rows { OnOk result (GivesRows kept.old kept.new out.old.elements out.new.elements x.now low) }
+    ensures rows { OnOk result (
+        GivesRows kept.old kept.new out.old.elements out.new.elements input x.now low bounds) }
     ensures place { OnOk result (1 ≤ out.new.spare) }
     ensures err { OnErr result (kept.new ≡ kept.old) }
     ensures err_out { OnErr result (out.new.elements ≡ out.old.elements) }
@@ -108,5 +117,32 @@ pub(crate) fn give_rows(
             Ok(())
         }
         Kept::Hopping(window) => window.step(x, low, out),
+        Kept::Joining(join) => join.step(side_of(input), x, bounds, out),
     }
+}
+
+/// How many rows the operator gives at an element of this input, after which Low is `low`.
+pub(crate) fn count_rows(kept: &Kept, input: u32, x: &Element, low: Bound) -> u64
+    requires kept { IsKept kept.now }
+    requires early { IsBefore (2 ^ 63) x.now }
+    ensures rows { CountsRows kept.now input x.now low result }
+    ensures few { result < 2 ^ 63 }
+{
+    entries_follow();
+    match kept {
+        Kept::RowByRow(spec) => match row_given(spec, x) {
+            Some(_) => 1,
+            None => 0,
+        },
+        Kept::Hopping(window) => window.due(low),
+        Kept::Joining(join) => join.count_given(side_of(input), x),
+    }
+}
+
+/// The input of a join, which has no others than 0 and 1.
+fn side_of(input: u32) -> u32
+    ensures side { result < 2 }
+    ensures same { input < 2 → result ≡ input }
+{
+    input.min(1)
 }

@@ -3,6 +3,8 @@
 
 mod given;
 mod kept;
+mod laws;
 mod oper;
 
+pub use laws::images_are_read_again;
 pub use oper::Oper;

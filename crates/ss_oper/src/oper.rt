@@ -1,16 +1,18 @@
-ghost use Rattle.std.specs.Prelude.{◌≡◌, ◌^◌, ◌<◌, ◌++◌, true, IfOk, IfErr, Ok, OnOk, OnErr};
+ghost use Rattle.std.specs.Prelude.{◌≡◌, ◌^◌, ◌<◌, ◌≤◌, ◌++◌, true, IfOk, IfErr, Ok, OnOk, OnErr};
 ghost use Rattle.std.specs.Prelude.{IsTrue, ◌↔◌};
 ghost use Rattle.ss_expr.specs.Operators.{IsComputable};
+ghost use Rattle.ss_image.specs.Faults.{Fails};
+ghost use Rattle.ss_image.specs.Images.{image_of};
 ghost use Rattle.ss_meaning.specs.Entries.{entry_count};
 ghost use Rattle.ss_meaning.specs.Inputs.{least_bound};
 ghost use Rattle.ss_meaning.specs.Jobs.{IsBefore};
 
 use crate::given::{push_mark, told_rise};
-use crate::kept::{Kept, give_rows, kept_before_all, kept_of_image};
+use crate::kept::{Kept, count_rows, give_rows, kept_before_all, kept_of_image};
 use ss_elem::{Bound, Element, Out};
 use ss_expr::Spec;
+use ss_image::ImageFault;
 use ss_merge::Merger;
-use ss_window::ImageFault;
 use std::alloc::{AllocError, Global};
 use std::marker::Model;
 
@@ -40,13 +42,12 @@ impl Model for Oper {
 }
 
 impl Oper {
-    ghost use Rattle.ss_oper.specs.Standing.{OperState, StandsBeforeAll, Steps, CountFew, is_built};
-    ghost use Rattle.ss_oper.specs.Standing.{image_of, remembered, Fails};
+    ghost use Rattle.ss_oper.specs.Standing.{OperState, StandsBeforeAll, Steps, CountFew, CountsGiven};
+    ghost use Rattle.ss_oper.specs.Standing.{remembered};
 
-    /// The operator that computes this, before any element. Joins are none yet.
+    /// The operator that computes this, before any element.
     pub fn new(alloc: Global, spec: &Spec) -> Result<Oper, AllocError>
-        requires built { is_built spec.now ≡ true }
-        requires computable { IsComputable spec.now }
+        requires { IsComputable spec.now }
         ensures spec { IfOk result (λ oper. oper.spec ≡ spec.now) }
         ensures stands { IfOk result StandsBeforeAll }
     {
@@ -75,12 +76,26 @@ impl Oper {
         ensures err { OnErr result (self.new ≡ self.old) }
         ensures err_out { OnErr result (out.new.elements ≡ out.old.elements) }
     {
-        let _ = input;
         let low = merger.low();
-        give_rows(&mut self.kept, x, low, out)?;
+        give_rows(&mut self.kept, input, x, low, merger.bounds(), out)?;
         push_mark(out, told_rise(self.low, low));
         self.low = low;
         Ok(())
+    }
+
+    /// How many elements a step would give at an element of this input, without making it. The merger is the one after
+    /// the element.
+    pub fn count_given(&self, input: u32, x: &Element, merger: &Merger) -> u64
+        requires { IsBefore (2 ^ 63) x.now }
+        ensures given { CountsGiven merger.now input x.now self.now result }
+        ensures few { result ≤ 2 ^ 63 }
+    {
+        let after = merger.low();
+        let rows = count_rows(&self.kept, input, x, after);
+        match told_rise(self.low, after) {
+            Some(_) => rows + 1,
+            None => rows,
+        }
     }
 
     /// Whether no entry of a window counts 2^62 rows, so that the operator may take an element.
@@ -90,6 +105,7 @@ impl Oper {
         match &self.kept {
             Kept::RowByRow(_) => true,
             Kept::Hopping(window) => window.counts_few(),
+            Kept::Joining(_) => true,
         }
     }
 
@@ -100,6 +116,7 @@ impl Oper {
         match &self.kept {
             Kept::RowByRow(_) => 0,
             Kept::Hopping(window) => window.held(),
+            Kept::Joining(join) => join.held(),
         }
     }
 
@@ -114,6 +131,7 @@ impl Oper {
         match &self.kept {
             Kept::RowByRow(_) => Ok(()),
             Kept::Hopping(window) => window.image(out),
+            Kept::Joining(join) => join.image(out),
         }
     }
 
@@ -124,15 +142,16 @@ impl Oper {
         merger: &Merger,
         bytes: &[u8],
     ) -> Result<Oper, ImageFault>
-        requires built { is_built spec.now ≡ true }
-        requires computable { IsComputable spec.now }
+        requires { IsComputable spec.now }
         ensures spec { IfOk result (λ oper. oper.spec ≡ spec.now) }
         ensures low { IfOk result (λ oper. oper.low ≡ least_bound merger.now.bounds) }
-        ensures ok { IfOk result (λ oper. remembered spec.now oper.low bytes.now ≡ Ok oper.entries) }
-        ensures fault { IfErr result (λ e. Fails e (remembered spec.now (least_bound merger.now.bounds) bytes.now)) }
+        ensures ok { IfOk result (λ oper. remembered spec.now merger.now.bounds bytes.now ≡ Ok oper.entries) }
+        ensures fault { IfErr result (λ e. Fails e (remembered spec.now merger.now.bounds bytes.now)) }
     {
-        let low = merger.low();
-        let kept = kept_of_image(alloc, spec, low, bytes)?;
-        Ok(Oper { kept, low })
+        let kept = kept_of_image(alloc, spec, merger, bytes)?;
+        Ok(Oper {
+            kept,
+            low: merger.low(),
+        })
     }
 }

@@ -75,7 +75,8 @@ fn fault_of(
     };
     match Window::of_image(alloc, hop, hop, agg, Field::A, bound, bytes) {
         Ok(window) => {
-            assert!(rt; bytes.len() as u64 == 4 + 48 * window.held());
+            let len = window.held().saturating_mul(48).saturating_add(4);
+            assert!(rt; bytes.len() as u64 == len);
             Ok(None)
         }
         Err(ImageFault::At { at }) => Ok(Some(at)),

@@ -12,3 +12,5 @@ mod harness;
 mod images;
 #[cfg(test)]
 mod operators;
+#[cfg(test)]
+mod panes;

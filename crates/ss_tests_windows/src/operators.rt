@@ -1,6 +1,5 @@
-ghost use Rattle.std.specs.Prelude.{◌≡◌, true, IfOk};
+ghost use Rattle.std.specs.Prelude.{IfOk};
 ghost use Rattle.ss_expr.specs.Operators.{IsComputable};
-ghost use Rattle.ss_oper.specs.Standing.{is_built};
 
 use crate::harness::{elements_of, is_early, lines_of};
 use ss_elem::{Element, Out, valid_next};
@@ -13,8 +12,7 @@ use std::test::Fail;
 
 /// A select of all rows, with two values computed from them.
 fn select(alloc: Global, a: &str, b: &str) -> Result<Spec, Fail>
-    ensures built { IfOk result (λ spec. is_built spec ≡ true) }
-    ensures computable { IfOk result IsComputable }
+    ensures { IfOk result IsComputable }
 {
     let a = parse(alloc, a)?;
     check_kind(&a, ValueKind::Num)?;
@@ -44,8 +42,7 @@ fn again(
     merger: &Merger,
     oper: &Oper,
 ) -> Result<Oper, Fail>
-    requires built { is_built spec.now ≡ true }
-    requires computable { IsComputable spec.now }
+    requires { IsComputable spec.now }
 {
     let mut image = Vec::new(alloc);
     assert!(rt; oper.held() < 1 << 25);
@@ -64,8 +61,7 @@ fn output(
     texts: &[&str],
     cut: usize,
 ) -> Result<Vec<u8>, Fail>
-    requires built { is_built spec.now ≡ true }
-    requires computable { IsComputable spec.now }
+    requires { IsComputable spec.now }
 {
     let mut lists = Vec::new(alloc);
     for text in texts {
@@ -101,8 +97,7 @@ fn check(
     texts: &[&str],
     lines: &str,
 ) -> Result<(), Fail>
-    requires built { is_built spec.now ≡ true }
-    requires computable { IsComputable spec.now }
+    requires { IsComputable spec.now }
 {
     for cut in 0..12 {
         let found = output(rt, alloc, spec, texts, cut)?;
@@ -127,6 +122,28 @@ fn unions_give_the_rows_of_all_inputs(rt: HostRuntime) -> Result<(), Fail> {
         &Spec::Union,
         &[twice, twice],
         "event,1,2,p,1,0\nevent,1,2,p,1,0\ncti,5\nend\n",
+    )
+}
+
+#[test]
+fn a_union_takes_eight_inputs_and_one_stream_three_times(rt: HostRuntime) -> Result<(), Fail> {
+    let one = "event,1,2,a,1,0\ncti,5\n";
+    check(
+        &rt,
+        rt.alloc(),
+        &Spec::Union,
+        &[
+            one,
+            "cti,5\nevent,6,7,b,2,0\n",
+            one,
+            "",
+            "event,3,4,d,4,0\ncti,5\n",
+            one,
+            "cti,9\n",
+            "event,5,8,f,6,0\n",
+        ],
+        "event,1,2,a,1,0\nevent,1,2,a,1,0\nevent,3,4,d,4,0\nevent,1,2,a,1,0\nevent,5,8,f,6,0\n\
+        cti,5\nevent,6,7,b,2,0\ncti,9\nend\n",
     )
 }
 
@@ -169,6 +186,27 @@ fn windows_give_their_rows_and_then_their_ctis(rt: HostRuntime) -> Result<(), Fa
         &least,
         &["event,1,2,k,0,5\nevent,2,3,k,0,-3\n"],
         "event,10,20,k,-3,2\nevent,20,30,k,-3,2\nevent,30,40,k,-3,2\nend\n",
+    )
+}
+
+#[test]
+fn joins_give_their_rows_and_then_their_ctis(rt: HostRuntime) -> Result<(), Fail> {
+    check(
+        &rt,
+        rt.alloc(),
+        &Spec::Join,
+        &[
+            "event,1,10,k,1,0\ncti,20\n",
+            "event,5,7,k,2,0\ncti,6\nevent,9,12,k,3,0\n",
+        ],
+        "event,5,7,k,1,2\ncti,6\nevent,9,10,k,1,3\ncti,20\nend\n",
+    )?;
+    check(
+        &rt,
+        rt.alloc(),
+        &Spec::Join,
+        &["event,1,5,k,1,0\ncti,5\n", "event,5,9,k,2,0\ncti,5\n"],
+        "cti,5\nend\n",
     )
 }
 

@@ -9,7 +9,7 @@ use Rattle.std.proofs.lemmas.Option.{option_and_then_some, cond_some}
 use Rattle.ss_expr.specs.declared.stream_operator.Agg.{Agg}
 use Rattle.ss_meaning.specs.Entries.{WindowEntry}
 use Rattle.ss_meaning.specs.EntryLists.{AreInOrder, IsBehind, is_before}
-use Rattle.ss_window.specs.Numbers.{number_at, key_in}
+use Rattle.ss_image.specs.Numbers.{number_at, key_in}
 use Rattle.ss_window.specs.ImageTests.{entry_in, entry_read, entries_read, with_first, is_entry, follows, last, has_whole_entries, image_read}
 
 -- entries in front of others, where those are read
@@ -121,7 +121,7 @@ entries_read-in_order hop agg low (suc n) at d bytes es h =
     by_entry (Some e) f g rest =
         by_rest e (entries_read hop agg low n (at + 48) (Some e) (drop 48 bytes)) (entry_read-follows hop agg low (Some d) bytes e f) g (rest e)
 
-first_in_order : (hop : ℕ) (agg : Agg) (low n at : ℕ) (bytes : List ℕ) (es : List WindowEntry)
+pub first_in_order : (hop : ℕ) (agg : Agg) (low n at : ℕ) (bytes : List ℕ) (es : List WindowEntry)
     → entries_read hop agg low n at None bytes ≡ Ok es → AreInOrder es
 unfolding entries_read
 first_in_order hop agg low zero at bytes es h = subst AreInOrder (same_ok [] es h) tt

@@ -1,5 +1,5 @@
 pub mod Joins
-pub mod Places
+pub mod TotalPuts
 pub mod Walks
 pub mod Rises
 pub mod Arrivals
@@ -9,3 +9,4 @@ pub mod EntryReads
 pub mod Spellings
 pub mod ReadAgain
 pub mod StateImages
+pub mod TotalLists

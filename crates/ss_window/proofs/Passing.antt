@@ -1,14 +1,13 @@
 -- What passes the tests of an image can be held.
-use Rattle.std.proofs.Common.{◌≡◌, ℕ, ◌-◌, ◌*◌, ◌^◌, ◌<◌, ◌≤◌, true, ◌&&◌, ◌==◌, nat_lt, nat_le, ◌%◌, ℤ, pos, neg_ℤ, ◌≤ℤ◌, arith, ltb-true, leb-true}
+use Rattle.std.proofs.Common.{◌≡◌, ℕ, ◌-◌, ◌*◌, ◌^◌, ◌<◌, ◌≤◌, true, nat_lt, nat_le, ℤ, pos, neg_ℤ, ◌≤ℤ◌, arith, ltb-true, leb-true}
 use Rattle.std.specs.Prelude.{int_le}
 use Rattle.std.proofs.lemmas.Bool.{and_parts}
 use Rattle.std.proofs.lemmas.Int.{ints}
-use Rattle.ss_elem.specs.Validity.{top}
 use Rattle.ss_expr.specs.declared.stream_operator.Agg.{Agg}
 use Rattle.ss_expr.specs.declared.stream_operator.Agg.TheVariants.{Sum, Least, Greatest}
 use Rattle.ss_meaning.specs.Entries.{WindowEntry}
 use Rattle.ss_window.specs.Held.{IsHeld}
-use Rattle.ss_window.specs.ImageTests.{is_open_end, is_count, is_sum_of, summands}
+use Rattle.ss_window.specs.ImageTests.{is_count, is_sum_of, summands}
 
 le_from_test : (x y : ℤ) → int_le x y ≡ true → x ≤ℤ y
 le_from_test x y h = grind (arith, ints)
@@ -28,11 +27,9 @@ summands-le Sum rows h = omega arith
 summands-le Least rows h = omega (arith, h)
 summands-le Greatest rows h = omega (arith, h)
 
-pub passing_is_held : (hop low : ℕ) (agg : Agg) (e : WindowEntry) → is_open_end hop low e.end ≡ true → is_count e.rows ≡ true
-    → is_sum_of (summands agg e.rows) e.value ≡ true → IsHeld e
-passing_is_held hop low agg e h k l =
-    let ends = and_parts (nat_lt low e.end && nat_lt e.end top) (e.end % hop == 0) h in
-    let below = ltb-true e.end top (and_parts (nat_lt low e.end) (nat_lt e.end top) ends.0).1 in
+pub passing_is_held : (agg : Agg) (e : WindowEntry) → is_count e.rows ≡ true
+    → is_sum_of (summands agg e.rows) e.value ≡ true → IsHeld (record { value = e.value; rows = e.rows })
+passing_is_held agg e k l =
     let counts = and_parts (nat_lt 0 e.rows) (nat_le e.rows (2 ^ 62)) k in
     let some = ltb-true 0 e.rows counts.0 in
     let few = leb-true e.rows (2 ^ 62) counts.1 in
@@ -40,7 +37,6 @@ passing_is_held hop low agg e h k l =
     let down = sum_low (summands agg e.rows) e.value l in
     let up = sum_high (summands agg e.rows) e.value l in
     record {
-      near = omega (arith, below);
       few = omega (arith, few);
       least = omega (arith, ints, le, down);
       most = omega (arith, ints, le, up);

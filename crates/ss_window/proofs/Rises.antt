@@ -1,10 +1,11 @@
 -- Entries in order are cut at a bound in one place.
-use Rattle.std.proofs.Common.{◌≡◌, ℕ, zero, suc, ◌+◌, ◌-◌, ◌<◌, Bool, true, false, cond, nat_lt, nat_le, List, [], ◌∷◌, ◌++◌, length, take, drop, filter, refl, sym, ap, ◌∙◌, arith, leb-true, leb-false, lt-ltb, le-ltb}
+use Rattle.std.proofs.Common.{◌≡◌, ℕ, zero, suc, ◌+◌, ◌<◌, Bool, true, false, cond, nat_lt, nat_le, List, [], ◌∷◌, length, take, drop, filter, refl, sym, ap, subst, ◌∙◌, arith, leb-true, leb-false, lt-ltb, le-ltb}
 use Rattle.std.proofs.lemmas.Bool.{lt-leb}
-use Rattle.std.proofs.lemmas.List.{take_at, length-drop}
+use Rattle.std.proofs.lemmas.List.Folds.{length-prefix_len}
 use Rattle.std.specs.List.{AllByRecursion, prefix_len}
 use Rattle.ss_meaning.specs.Entries.{WindowEntry}
 use Rattle.ss_meaning.specs.EntryLists.{IsBehind, AreInOrder}
+use Rattle.ss_window.specs.States.{begins_reached, reached, left}
 
 one_more : (n : ℕ) → 1 + n ≡ suc n
 one_more n = omega arith
@@ -46,10 +47,25 @@ cut low (e ∷ es) h = by_test (nat_le e.end low) refl (cut low es h.1)
           sym none.1,
         )
 
-pub in_order-drop : (n : ℕ) (es : List WindowEntry) → AreInOrder es → AreInOrder (drop n es)
+-- where no end in front is reached, none is
+pub none_reached : (low : ℕ) (es : List WindowEntry) → AreInOrder es → begins_reached low es ≡ false → (reached low es ≡ []) × (left low es ≡ es)
+none_reached low [] h k = (refl, refl)
+none_reached low (e ∷ es) h k = let above = leb-false e.end low k in none_closed low (e ∷ es) (above, later low e es above h.0)
+
+-- an entry in front that is reached is given, and goes
+pub first_reached : (low : ℕ) (e : WindowEntry) (es : List WindowEntry) → nat_le e.end low ≡ true → (reached low (e ∷ es) ≡ e ∷ reached low es) × (left low (e ∷ es) ≡ left low es)
+first_reached low e es h = (
+  ap (λ b. cond b (e ∷ reached low es) (reached low es)) h,
+  ap (λ b. cond b (e ∷ left low es) (left low es)) (le-ltb low e.end (leb-true e.end low h)),
+)
+
+pub reached_count : (low : ℕ) (es : List WindowEntry) → AreInOrder es → length (reached low es) ≡ prefix_len (is_closed low) es
+reached_count low es h = ap length (sym (cut low es h).0) ∙ length-prefix_len (is_closed low) es
+
+in_order-drop : (n : ℕ) (es : List WindowEntry) → AreInOrder es → AreInOrder (drop n es)
 in_order-drop zero es h = h
 in_order-drop (suc n) [] h = tt
 in_order-drop (suc n) (e ∷ es) h = in_order-drop n es h.1
 
-pub rotated : (n : ℕ) (es : List WindowEntry) → take (length es - n) (drop n es ++ take n es) ≡ drop n es
-rotated n es = take_at (drop n es) (take n es) (length es - n) (length-drop n es)
+pub left_in_order : (low : ℕ) (es : List WindowEntry) → AreInOrder es → AreInOrder (left low es)
+left_in_order low es h = subst AreInOrder (cut low es h).1 (in_order-drop (prefix_len (is_closed low) es) es h)

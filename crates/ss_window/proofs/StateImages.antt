@@ -24,9 +24,8 @@ use Rattle.ss_meaning.specs.EntryLists.{AreInOrder}
 use Rattle.ss_meaning.specs.EntryLaws.{IsEntryOf, EntriesCountRows, EntriesAreInOrder}
 use Rattle.ss_window.specs.States.{Settings, window_of}
 use Rattle.ss_window.specs.ImageTests.{is_open_end, is_count, is_sum_of, summands}
-use Rattle.ss_window.specs.ImageLaws.{MayStand, IsKept, StatesAreReadAgain}
+use Rattle.ss_window.specs.ImageLaws.{EntriesAreReadAgain, MayStand, IsKept, StatesAreReadAgain}
 use Rattle.ss_window.proofs.Arrivals.{same_list, rows-at_most}
-use Rattle.ss_window.proofs.ReadAgain.{entries_are_read_again}
 
 -- values of 64 bits
 
@@ -155,8 +154,8 @@ each_stands : (s : Settings) (seen : List Event) (b : ℕ) (es : List WindowEntr
 each_stands s seen b [] few kept h k = tt
 each_stands s seen b (e ∷ es) few kept h k = (may_stand s seen b e few kept h.0 k.0, each_stands s seen b es few kept h.1 k.1)
 
-pub states_are_read_again : EntriesCountRows → EntriesAreInOrder → StatesAreReadAgain
-states_are_read_again counts order state p hops stood kept few short =
+pub states_are_read_again : EntriesAreReadAgain → EntriesCountRows → EntriesAreInOrder → StatesAreReadAgain
+states_are_read_again again counts order state p hops stood kept few short =
     let s = state.settings in
     let window = window_of s in
     let seen = rows (from_input 0 p) in
@@ -166,5 +165,5 @@ states_are_read_again counts order state p hops stood kept few short =
     let facts = counts window seen (low 1 p) hops.least_hop in
     let stand = each_stands s seen (low 1 p) es (omega (arith, le, few)) (recursion_from_All (IsKept s.size) seen kept)
     (recursion_from_All (IsEntryOf window seen (low 1 p)) es facts.0) (recursion_from_All (λ (e : WindowEntry). e.rows ≤ length seen) es facts.1) in
-    entries_are_read_again s.hop s.agg (low 1 p) state.entries short (subst AreInOrder (sym same) (order window seen (low 1 p)))
+    again s.hop s.agg (low 1 p) state.entries short (subst AreInOrder (sym same) (order window seen (low 1 p)))
     (subst (All (MayStand s.hop s.agg (low 1 p))) (sym same) (All-from_recursion (MayStand s.hop s.agg (low 1 p)) es stand))

@@ -1,61 +1,13 @@
--- What stays known along one walk from end to end.
-use Rattle.std.proofs.Common.{◌≡◌, ℕ, suc, ◌+◌, ◌-◌, ◌*◌, ◌<◌, ◌≤◌, ◌==◌, ◌⊎◌, Bool, true, false, cond, ◌&&◌, nat_lt, ℤ, List, [], ◌∷◌, length, take, filter, All, refl, ap, ◌∙◌, inl, inr, arith, ltb-true, ltb-false, lt-ltb, le-ltb, eqb-true, eq-eqb}
-use Rattle.std.proofs.lemmas.Bool.{and_parts, and_from, or_cases, or_left, or_right}
+-- What stays known from one end of a row to the next.
+use Rattle.std.proofs.Common.{◌≡◌, ℕ, suc, ◌+◌, ◌-◌, ◌*◌, ◌<◌, ◌≤◌, Bool, true, false, cond, nat_lt, ℤ, List, [], ◌∷◌, filter, All, Result, Ok, Err, sym, ap, subst, ◌∙◌, arith, lt-ltb, le-ltb}
 use Rattle.std.proofs.lemmas.List.Elements.{All-from_recursion, recursion_from_All, All-weaker}
-use Rattle.std.specs.List.{AllByRecursion, prefix_len, list_all}
+use Rattle.std.specs.List.{AllByRecursion}
+use Rattle.std.specs.Prelude.{OnOk, OnErr}
 use Rattle.ss_meaning.specs.Entries.{WindowEntry}
 use Rattle.ss_meaning.specs.EntryLists.{AreInOrder, is_before, is_of, single_entry, grown_entry, put_value, put_values}
 use Rattle.ss_meaning.specs.EntryLaws.{PutKeepsOrder}
 use Rattle.ss_meaning.specs.Window.{multiples}
-
-one_more : (n : ℕ) → 1 + n ≡ suc n
-one_more n = omega arith
-
--- what stands before a place stands before each later one of the key
-before_later : (w v key : ℕ) (e : WindowEntry) → w ≤ v → is_before w key e ≡ true → is_before v key e ≡ true
-before_later w v key e h k = by_case (or_cases (nat_lt e.end w) (e.end == w && nat_lt e.key key) k)
-  where
-    by_order : e.end ≡ w → nat_lt e.key key ≡ true → (b : Bool) → nat_lt e.end v ≡ b → is_before v key e ≡ true
-    by_order same less true t = or_left (nat_lt e.end v) (e.end == v && nat_lt e.key key) t
-    by_order same less false t =
-        let most = ltb-false e.end v t in
-        let equal : e.end ≡ v = omega (arith, most, same, h) in
-        or_right (nat_lt e.end v) (e.end == v && nat_lt e.key key) (and_from (e.end == v) (nat_lt e.key key) (eq-eqb e.end v equal) less)
-
-    by_case : (nat_lt e.end w ≡ true) ⊎ ((e.end == w && nat_lt e.key key) ≡ true) → is_before v key e ≡ true
-    by_case (inl l) =
-        or_left (nat_lt e.end v) (e.end == v && nat_lt e.key key) (lt-ltb e.end v (let less = ltb-true e.end w l in omega (arith, less, h)))
-    by_case (inr r) =
-        let parts = and_parts (e.end == w) (nat_lt e.key key) r in
-        by_order (eqb-true e.end w parts.0) parts.1 (nat_lt e.end v) refl
-
-pub all_before_later : (w v key : ℕ) (es : List WindowEntry) → w ≤ v → list_all (is_before w key) es ≡ true → list_all (is_before v key) es ≡ true
-all_before_later w v key [] h k = refl
-all_before_later w v key (e ∷ es) h k =
-    let parts = and_parts (is_before w key e) (list_all (is_before w key) es) k in
-    and_from (is_before v key e) (list_all (is_before v key) es) (before_later w v key e h parts.0) (all_before_later w v key es h parts.1)
-
--- in front of the place of one end, all that stands there now stands before the place of a later one
-pub walked : (join : ℤ → ℤ → ℤ) (key : ℕ) (value : ℤ) (w v : ℕ) (es : List WindowEntry) → w ≤ v
-    → (list_all (is_before v key) (take (prefix_len (is_before w key) es) (put_value join key value w es)) ≡ true)
-    × (prefix_len (is_before w key) es ≤ length (put_value join key value w es))
-walked join key value w v [] h = (refl, omega arith)
-walked join key value w v (e ∷ es) h = by_test (is_before w key e) refl (walked join key value w v es h)
-  where
-    by_test : (b : Bool) → is_before w key e ≡ b
-        → (list_all (is_before v key) (take (prefix_len (is_before w key) es) (put_value join key value w es)) ≡ true)
-        × (prefix_len (is_before w key) es ≤ length (put_value join key value w es))
-        → (list_all (is_before v key) (take (cond b (1 + prefix_len (is_before w key) es) 0)
-        (cond b (e ∷ put_value join key value w es) (cond (is_of w key e) (grown_entry join value e ∷ es) (single_entry w key value ∷ e ∷ es)))) ≡ true)
-        × (cond b (1 + prefix_len (is_before w key) es) 0
-        ≤ length (cond b (e ∷ put_value join key value w es) (cond (is_of w key e) (grown_entry join value e ∷ es) (single_entry w key value ∷ e ∷ es))))
-    by_test true t rest = (
-      ap (λ n. list_all (is_before v key) (take n (e ∷ put_value join key value w es))) (one_more (prefix_len (is_before w key) es))
-          ∙ and_from (is_before v key e) (list_all (is_before v key) (take (prefix_len (is_before w key) es) (put_value join key value w es)))
-          (before_later w v key e h t) rest.0,
-      omega (arith, rest.1),
-    )
-    by_test false t rest = (refl, omega arith)
+use Rattle.ss_window.specs.Held.{EntryTotal, entries_in}
 
 -- each entry counts at most one row more
 few_each : (limit : ℕ) (join : ℤ → ℤ → ℤ) (key : ℕ) (value : ℤ) (w : ℕ) (es : List WindowEntry) → 0 < limit → AllByRecursion (λ (e : WindowEntry). e.rows < limit) es
@@ -111,3 +63,9 @@ skipped_end hop number low to join key value es h k =
 pub puts_keep_order : PutKeepsOrder → (join : ℤ → ℤ → ℤ) (key : ℕ) (value : ℤ) (ws : List ℕ) (es : List WindowEntry) → AreInOrder es → AreInOrder (put_values join key value ws es)
 puts_keep_order keeps join key value [] es h = h
 puts_keep_order keeps join key value (w ∷ ws) es h = puts_keep_order keeps join key value ws (put_value join key value w es) (keeps join key value w es h)
+
+-- order is kept where all is put, and where nothing is
+pub order_after : PutKeepsOrder → {T E : Type 0} (r : Result T E) (join : ℤ → ℤ → ℤ) (key : ℕ) (value : ℤ) (ws : List ℕ) (old new : List ((ℕ × ℕ) × EntryTotal))
+    → AreInOrder (entries_in old) → OnOk r (entries_in new ≡ put_values join key value ws (entries_in old)) → OnErr r (new ≡ old) → AreInOrder (entries_in new)
+order_after keeps (Ok x) join key value ws old new h puts same = subst AreInOrder (sym puts) (puts_keep_order keeps join key value ws (entries_in old) h)
+order_after keeps (Err e) join key value ws old new h puts same = subst (λ es. AreInOrder (entries_in es)) (sym same) h

@@ -1,24 +1,47 @@
--- What the program holds of one end and one key.
-use Rattle.std.specs.Prelude.{ℕ, ◌+◌, ◌-◌, ◌*◌, ◌^◌, ◌<◌, ◌≤◌, nat_lt, ℤ, pos, neg_ℤ, ◌+ℤ◌, ◌≤ℤ◌}
-use Rattle.std.specs.Prelude.{List, filter}
+-- What the program holds of the ends and keys of a window.
+use Rattle.std.specs.Prelude.{ℕ, ◌+◌, ◌-◌, ◌*◌, ◌^◌, ◌<◌, nat_lt, ℤ, pos, neg_ℤ, ◌+ℤ◌, ◌≤ℤ◌}
+use Rattle.std.specs.Prelude.{List, map, filter, Option, Some, None}
 use Rattle.std.specs.Int.{int_min, int_max}
+use Rattle.std.specs.Ordering.{nat_cmp, ordering_then}
+use Rattle.std.specs.declared.cmp.Ordering.{Ordering}
 use Rattle.ss_expr.specs.declared.stream_operator.Agg.{Agg}
 use Rattle.ss_expr.specs.declared.stream_operator.Agg.TheVariants.{Sum, Least, Greatest}
 use Rattle.ss_meaning.specs.Entries.{WindowEntry}
 use Rattle.ss_meaning.specs.Window.{multiples}
 
--- the end is at most a window's size above all times, and so many rows can't sum up to what doesn't fit 128 bits
-pub record IsHeld (e : WindowEntry) : Type 0 where
-  pub near : e.end ≤ 2 ^ 63 + 2 ^ 47
-  pub few : e.rows < 2 ^ 63
-  pub least : neg_ℤ (pos (e.rows * 2 ^ 63)) ≤ℤ e.value
-  pub most : e.value ≤ℤ pos (e.rows * 2 ^ 63)
+-- the aggregate of the values of one end and one key, and how many rows had one
+pub record EntryTotal : Type 0 where
+  pub value : ℤ
+  pub rows : ℕ
+
+-- so many rows can't sum up to what doesn't fit 128 bits
+pub record IsHeld (total : EntryTotal) : Type 0 where
+  pub few : total.rows < 2 ^ 63
+  pub least : neg_ℤ (pos (total.rows * 2 ^ 63)) ≤ℤ total.value
+  pub most : total.value ≤ℤ pos (total.rows * 2 ^ 63)
 
 -- how one more value joins the aggregate of those before
 abbrev pub join_of : Agg → ℤ → ℤ → ℤ
 join_of Sum = ◌+ℤ◌
 join_of Least = int_min
 join_of Greatest = int_max
+
+-- a total with one more value, where there was one or not
+abbrev pub grown_total : (ℤ → ℤ → ℤ) → ℤ → Option EntryTotal → EntryTotal
+grown_total join value None = record { value = value; rows = 1 }
+grown_total join value (Some total) = record { value = join total.value value; rows = total.rows + 1 }
+
+-- the order in which totals are held: that of their ends, and at one end that of their keys
+abbrev pub place_cmp : ℕ × ℕ → ℕ × ℕ → Ordering
+place_cmp x y = ordering_then (nat_cmp x.0 y.0) (nat_cmp x.1 y.1)
+
+-- the entry of an end and a key with this total
+abbrev pub entry_of : ℕ → ℕ → EntryTotal → WindowEntry
+entry_of end key total = record { end = end; key = key; value = total.value; rows = total.rows }
+
+-- the entries that totals at their ends and keys are
+abbrev pub entries_in : List ((ℕ × ℕ) × EntryTotal) → List WindowEntry
+entries_in totals = map (λ t. entry_of t.0.0 t.0.1 t.1) totals
 
 -- the multiples of hop above a bound, from the one with a number up to and without the one with another
 abbrev pub ends_left : ℕ → ℕ → ℕ → ℕ → List ℕ

@@ -3,7 +3,7 @@ use Rattle.std.specs.Prelude.{◌≡◌, ℕ, pos, neg_ℤ, List, [], ◌∷◌,
 use Rattle.ss_expr.specs.declared.stream_operator.Agg.TheVariants.{Sum}
 use Rattle.ss_meaning.specs.EntryExamples.{summed}
 use Rattle.ss_meaning.specs.Examples.{k}
-use Rattle.ss_window.specs.Images.{entry_bytes, image}
+use Rattle.ss_image.specs.Images.{entry_bytes, window_image}
 use Rattle.ss_window.specs.ImageTests.{image_read}
 
 -- so many zeros
@@ -20,7 +20,7 @@ two_entries =
     (zeros 3 ++ 2 ∷ []) ++ (zeros 7 ++ 10 ∷ []) ++ one_row_of_three ++ (zeros 7 ++ 20 ∷ []) ++ one_row_of_three
 
 abbrev pub TwoEntriesSpelled : Type 0
-TwoEntriesSpelled = image (summed 10 k 3 1 ∷ summed 20 k 3 1 ∷ []) ≡ two_entries
+TwoEntriesSpelled = window_image (summed 10 k 3 1 ∷ summed 20 k 3 1 ∷ []) ≡ two_entries
 
 abbrev pub HundredBytes : Type 0
 HundredBytes = length two_entries ≡ 100

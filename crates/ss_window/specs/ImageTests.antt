@@ -1,5 +1,5 @@
 -- What bytes say as the image of a window, and which tests they have to pass.
-use Rattle.std.specs.Prelude.{◌≡◌, ℕ, zero, suc, ◌+◌, ◌-◌, ◌*◌, ◌%◌, ◌^◌, ◌==◌, nat_lt, nat_le, Bool, true, ◌&&◌}
+use Rattle.std.specs.Prelude.{ℕ, zero, suc, ◌+◌, ◌-◌, ◌*◌, ◌%◌, ◌^◌, ◌==◌, nat_lt, nat_le, Bool, true, ◌&&◌}
 use Rattle.std.specs.Prelude.{if◌then◌else◌, ℤ, pos, neg_ℤ, int_le, List, [], ◌∷◌, length, slice_get, take, drop}
 use Rattle.std.specs.Prelude.{Option, Some, None}
 use Rattle.std.specs.Prelude.{Result, Ok, Err}
@@ -10,9 +10,7 @@ use Rattle.ss_expr.specs.declared.stream_operator.Agg.{Agg}
 use Rattle.ss_expr.specs.declared.stream_operator.Agg.TheVariants.{Sum, Least, Greatest}
 use Rattle.ss_meaning.specs.Entries.{WindowEntry}
 use Rattle.ss_meaning.specs.EntryLists.{is_before}
-use Rattle.ss_window.specs.Numbers.{number_at, key_in}
-use Rattle.ss_window.specs.declared.image_fault.ImageFault.{ImageFault}
-use Rattle.ss_window.specs.declared.image_fault.ImageFault.TheVariants.{At, Memory}
+use Rattle.ss_image.specs.Numbers.{number_at, key_in}
 
 -- the entry with this key that the first 48 bytes say
 abbrev pub entry_in : ℕ → List ℕ → WindowEntry
@@ -82,8 +80,3 @@ has_whole_entries bytes = nat_le 4 (length bytes) && length bytes == 4 + 48 * nu
 abbrev pub image_read : ℕ → Agg → ℕ → List ℕ → Result (List WindowEntry) ℕ
 image_read hop agg low bytes =
     if has_whole_entries bytes then entries_read hop agg low (number_at 4 0 bytes) 4 None (drop 4 bytes) else Err 0
-
--- a fault is what should be answered, or want of memory
-abbrev pub Fails : ImageFault → Result (List WindowEntry) ℕ → Type 0
-Fails (At at) read = read ≡ Err at
-Fails Memory read = Unit {0}

@@ -1,7 +1,6 @@
 pub mod Held
+pub mod Puts
 pub mod States
-pub mod Numbers
-pub mod Images
 pub mod ImageTests
 pub mod ImageLaws
 pub mod ImageExamples

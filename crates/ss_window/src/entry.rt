@@ -1,69 +1,35 @@
-ghost use Rattle.std.specs.Prelude.{◌≡◌, ◌+◌, ◌^◌, ◌<◌, ◌≤◌, pos, neg_ℤ, ◌≤ℤ◌};
-ghost use Rattle.ss_meaning.specs.EntryLists.{is_before, is_of, single_entry, grown_entry, row_of_entry};
-ghost use Rattle.ss_meaning.specs.Window.{clamped};
-ghost use Rattle.ss_window.specs.Held.{join_of, IsHeld};
+ghost use Rattle.std.specs.Prelude.{◌≡◌};
+ghost use Rattle.ss_meaning.specs.EntryLists.{is_before};
+ghost use Rattle.ss_window.specs.Held.{entry_of};
 
-use ss_elem::{Event, Key};
-use ss_expr::Agg;
+use crate::total::Total;
+use ss_elem::Key;
 use std::marker::Model;
 
-/// What a window remembers of one end and one key: the sum, the least or the greatest of the values, and how many
-/// rows had one.
+/// A total at its end and key, as an image has it.
 #[derive(Clone, Copy)]
 pub(crate) struct Entry {
     end: u64,
     key: Key,
-    value: i128,
-    rows: u64,
+    total: Total,
 }
 
 impl Model for Entry {
     ghost use Rattle.ss_meaning.specs.Entries.{WindowEntry};
-    ghost use Rattle.ss_window.specs.Held.{IsHeld};
+    ghost use Rattle.ss_window.specs.Held.{entry_of};
 
     ghost Value = { WindowEntry };
 
-    ghost view = { λ e. record { end = e.end; key = e.key; value = e.value; rows = e.rows } };
+    ghost view = { λ e. entry_of e.end e.key e.total };
 
-    ghost invariant = { λ e. IsHeld (record { end = e.end; key = e.key; value = e.value; rows = e.rows }) };
-
-    ghost inverse = { λ e. record { end = e.end; key = e.key; value = e.value; rows = e.rows } };
+    ghost inverse = { λ e. record { end = e.end; key = e.key; total = record { value = e.value; rows = e.rows } } };
 }
 
 impl Entry {
-    /// The entry of one row.
-    pub(crate) fn single(end: u64, key: Key, value: i64) -> Entry
-        requires { end ≤ 2 ^ 63 + 2 ^ 47 }
-        ensures { result ≡ single_entry end key value }
+    pub(crate) fn of(end: u64, key: Key, total: Total) -> Entry
+        ensures { result ≡ entry_of end key total }
     {
-        Entry {
-            end,
-            key,
-            value: value as i128,
-            rows: 1,
-        }
-    }
-
-    /// The entry with these numbers.
-    pub(crate) fn of(end: u64, key: Key, value: i128, rows: u64) -> Entry
-        requires { IsHeld (record { end = end; key = key; value = value; rows = rows }) }
-        ensures { result ≡ record { end = end; key = key; value = value; rows = rows } }
-    {
-        Entry {
-            end,
-            key,
-            value,
-            rows,
-        }
-    }
-
-    /// Joins the value of one more row.
-    pub(crate) fn add(&mut self, value: i64, agg: Agg)
-        requires { self.old.rows + 1 < 2 ^ 63 }
-        ensures { self.new ≡ grown_entry (join_of agg) value self.old }
-    {
-        self.value = join(self.value, value, agg);
-        self.rows += 1;
+        Entry { end, key, total }
     }
 
     pub(crate) fn end(&self) -> u64
@@ -78,16 +44,10 @@ impl Entry {
         self.key
     }
 
-    pub(crate) fn value(&self) -> i128
-        ensures { result ≡ self.now.value }
+    pub(crate) fn total(&self) -> Total
+        ensures { result ≡ record { value = self.now.value; rows = self.now.rows } }
     {
-        self.value
-    }
-
-    pub(crate) fn rows(&self) -> u64
-        ensures { result ≡ self.now.rows }
-    {
-        self.rows
+        self.total
     }
 
     /// Whether the entry stands before the place of this end and key.
@@ -96,45 +56,4 @@ impl Entry {
     {
         self.end < end || self.end == end && self.key < *key
     }
-
-    pub(crate) fn is_of(&self, end: u64, key: &Key) -> bool
-        ensures { result ≡ is_of end key.now self.now }
-    {
-        self.end == end && self.key == *key
-    }
-
-    /// The row that the window gives for the entry.
-    pub(crate) fn row(&self, hop: u64) -> Event
-        requires { hop ≤ 2 ^ 40 }
-        ensures { result ≡ row_of_entry hop self.now }
-    {
-        Event {
-            start: self.end,
-            end: self.end + hop,
-            key: self.key,
-            a: nearest(self.value),
-            b: self.rows as i64,
-        }
-    }
-}
-
-/// The aggregate with one more value.
-fn join(aggregate: i128, value: i64, agg: Agg) -> i128
-    requires least { neg_ℤ (pos (2 ^ 126)) ≤ℤ aggregate }
-    requires most { aggregate ≤ℤ pos (2 ^ 126) }
-    ensures { result ≡ join_of agg aggregate value }
-{
-    let value = value as i128;
-    match agg {
-        Agg::Sum => aggregate + value,
-        Agg::Least => aggregate.min(value),
-        Agg::Greatest => aggregate.max(value),
-    }
-}
-
-/// The nearest number of 64 bits.
-fn nearest(value: i128) -> i64
-    ensures { result ≡ clamped value }
-{
-    value.clamp(i64::MIN as i128, i64::MAX as i128) as i64
 }

@@ -2,6 +2,7 @@ ghost use Rattle.ss_window.specs.ImageExamples.{TwoEntriesSpelled, HundredBytes,
 ghost use Rattle.ss_window.specs.ImageExamples.{OneByteFewer, FirstClosed};
 ghost use Rattle.ss_window.specs.ImageLaws.{EntriesAreReadAgain, StatesAreReadAgain};
 
+use ss_image::numbers_are_read_again;
 use ss_meaning::entries_are_in_order;
 
 /// Images of small windows, and what bytes near them say.
@@ -19,5 +20,6 @@ pub fn images_are_read_again()
     ensures entries { EntriesAreReadAgain }
     ensures states { StatesAreReadAgain }
 {
+    numbers_are_read_again();
     entries_are_in_order();
 }

@@ -1,11 +1,14 @@
 ghost use Rattle.std.specs.Prelude.{◌≡◌, ◌*◌, ◌^◌, ◌≤◌, None, Ok, length, IfOk, IfErr};
+ghost use Rattle.ss_window.specs.Held.{entries_in};
+ghost use Rattle.ss_image.specs.Faults.{Fails};
 ghost use Rattle.ss_window.specs.ImageTests.{entry_read, entries_read, follows, is_count, is_open_end, is_sum_of};
-ghost use Rattle.ss_window.specs.ImageTests.{image_read, last, summands, Fails};
+ghost use Rattle.ss_window.specs.ImageTests.{image_read, last, summands};
 
 use crate::entry::Entry;
-use crate::image_fault::ImageFault;
-use crate::numbers::{i128_at, read_key, u32_at, u64_at};
+use crate::total::Total;
+use crate::totals::{Totals, totals_of};
 use ss_expr::Agg;
+use ss_image::{ImageFault, i128_at, read_key, u32_at, u64_at};
 use std::alloc::Global;
 
 const COUNT_LEN: usize = 4;
@@ -16,16 +19,16 @@ const TOP_TIME: u64 = 1 << 63;
 
 const MOST_ROWS: u64 = 1 << 62;
 
-/// The entries whose image the bytes are.
+/// The totals whose image the bytes are.
 pub(crate) fn read_image(
     alloc: Global,
     hop: u64,
     agg: Agg,
     low: u64,
     bytes: &[u8],
-) -> Result<Vec<Entry>, ImageFault>
+) -> Result<Totals, ImageFault>
     requires { 1 ≤ hop }
-    ensures ok { IfOk result (λ v. image_read hop agg low bytes.now ≡ Ok v.items) }
+    ensures ok { IfOk result (λ totals. image_read hop agg low bytes.now ≡ Ok (entries_in totals.entries)) }
     ensures fault { IfErr result (λ fault. Fails fault (image_read hop agg low bytes.now)) }
 {
     if bytes.len() < COUNT_LEN {
@@ -35,7 +38,8 @@ pub(crate) fn read_image(
     if bytes.len() != COUNT_LEN + ENTRY_LEN * count {
         return Err(ImageFault::At { at: 0 });
     }
-    read_entries(alloc, hop, agg, low, count, &bytes[COUNT_LEN..])
+    let entries = read_entries(alloc, hop, agg, low, count, &bytes[COUNT_LEN..])?;
+    Ok(totals_of(alloc, &entries)?)
 }
 
 /// So many entries, which are all of the bytes.
@@ -81,7 +85,7 @@ fn read_entry(hop: u64, agg: Agg, low: u64, before: &[Entry], bytes: &[u8]) -> O
     if !is_open_end(hop, low, end) || !is_count(rows) || !is_sum_of(summands(agg, rows), value) {
         return None;
     }
-    let entry = Entry::of(end, key, value, rows);
+    let entry = Entry::of(end, key, Total::of(value, rows));
     if follows(before, &entry) {
         Some(entry)
     } else {

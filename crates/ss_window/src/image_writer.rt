@@ -1,47 +1,51 @@
 ghost use Rattle.std.specs.Prelude.{◌≡◌, ◌+◌, ◌*◌, ◌^◌, ◌<◌, ◌≤◌, ◌++◌, length, OnOk, OnErr};
 ghost use Rattle.std.specs.Prelude.{vec_len, vec_capacity};
+ghost use Rattle.std.specs.BTreeMap.{btree_map_len};
 ghost use Rattle.std.specs.List.{flat_map};
-ghost use Rattle.ss_window.specs.Images.{entry_bytes, image};
+ghost use Rattle.ss_image.specs.Images.{entry_bytes, window_image};
+ghost use Rattle.ss_window.specs.Held.{entries_in, entry_of};
 
-use crate::entry::Entry;
-use crate::numbers::{bytes_of_i128, bytes_of_key, bytes_of_u32, bytes_of_u64};
+use crate::total::Total;
+use crate::totals::Totals;
+use ss_elem::Key;
+use ss_image::{bytes_of_i128, bytes_of_key, bytes_of_u32, bytes_of_u64};
 use std::alloc::AllocError;
 
 const COUNT_LEN: usize = 4;
 
 const ENTRY_LEN: usize = 48;
 
-/// Appends the image of the entries. Its room is reserved first, so that it is appended whole or not at all.
-pub(crate) fn put_image(out: &mut Vec<u8>, entries: &[Entry]) -> Result<(), AllocError>
-    requires { length entries.now < 2 ^ 32 }
-    ensures ok { OnOk result (out.new.items ≡ out.old.items ++ image entries.now) }
+/// Appends the image of the totals. Its room is reserved first, so that it is appended whole or not at all.
+pub(crate) fn put_image(out: &mut Vec<u8>, totals: &Totals) -> Result<(), AllocError>
+    requires { btree_map_len totals.now < 2 ^ 32 }
+    ensures ok { OnOk result (out.new.items ≡ out.old.items ++ window_image (entries_in totals.now.entries)) }
     ensures err { OnErr result (out.new.items ≡ out.old.items) }
 {
-    out.reserve(COUNT_LEN + ENTRY_LEN * entries.len())?;
-    put(out, &bytes_of_u32(entries.len() as u32));
-    put_entries(out, entries);
+    out.reserve(COUNT_LEN + ENTRY_LEN * totals.len())?;
+    put(out, &bytes_of_u32(totals.len() as u32));
+    put_entries(out, totals);
     Ok(())
 }
 
-fn put_entries(out: &mut Vec<u8>, entries: &[Entry])
-    requires { vec_len out.old + 48 * length entries.now ≤ vec_capacity out.old }
-    ensures { out.new.items ≡ out.old.items ++ flat_map entry_bytes entries.now }
+fn put_entries(out: &mut Vec<u8>, totals: &Totals)
+    requires { vec_len out.old + 48 * btree_map_len totals.now ≤ vec_capacity out.old }
+    ensures { out.new.items ≡ out.old.items ++ flat_map entry_bytes (entries_in totals.now.entries) }
 {
-    for entry in entries {
-        put_entry(out, entry);
+    for (place, total) in totals {
+        put_entry(out, place.0, &place.1, total);
     }
 }
 
-fn put_entry(out: &mut Vec<u8>, entry: &Entry)
+fn put_entry(out: &mut Vec<u8>, end: u64, key: &Key, total: &Total)
     requires { vec_len out.old + 48 ≤ vec_capacity out.old }
-    ensures items { out.new.items ≡ out.old.items ++ entry_bytes entry.now }
+    ensures items { out.new.items ≡ out.old.items ++ entry_bytes (entry_of end key.now total.now) }
     ensures len { vec_len out.new ≡ vec_len out.old + 48 }
     ensures capacity { vec_capacity out.old ≤ vec_capacity out.new }
 {
-    put(out, &bytes_of_u64(entry.end()));
-    put(out, &bytes_of_key(&entry.key()));
-    put(out, &bytes_of_i128(entry.value()));
-    put(out, &bytes_of_u64(entry.rows()));
+    put(out, &bytes_of_u64(end));
+    put(out, &bytes_of_key(key));
+    put(out, &bytes_of_i128(total.value()));
+    put(out, &bytes_of_u64(total.rows()));
 }
 
 /// Appends bytes for which there is room.

@@ -2,43 +2,47 @@ ghost use Rattle.std.specs.Prelude.{◌≡◌, ◌+◌, ◌^◌, ◌<◌, ◌≤
 ghost use Rattle.std.specs.Prelude.{IsTrue, ◌↔◌};
 ghost use Rattle.ss_expr.specs.Operators.{HasWholeHops, field_of};
 ghost use Rattle.ss_meaning.specs.Jobs.{IsBefore};
-ghost use Rattle.ss_window.specs.Images.{image};
-ghost use Rattle.ss_window.specs.ImageTests.{image_read, Fails};
+ghost use Rattle.ss_image.specs.Images.{window_image};
+ghost use Rattle.ss_image.specs.Faults.{Fails};
+ghost use Rattle.ss_window.specs.ImageTests.{image_read};
 ghost use Rattle.ss_window.specs.States.{StandsAfter, StepsFromAll, CountsFew, FewArrivalsAreFewRows};
-ghost use Rattle.ss_window.specs.States.{with_row, left, given_at, rows_of_entries};
+ghost use Rattle.ss_window.specs.States.{with_row, left, reached, given_at, pane_count};
 
-use crate::entries::{closed, put_all};
-use crate::entry::Entry;
-use crate::image_fault::ImageFault;
+use crate::given::give_reached;
 use crate::image_reader::read_image;
 use crate::image_writer::put_image;
+use crate::totals::{Totals, all_few, closed, pane_count, put_all};
 use ss_elem::{Bound, Element, Event, Out};
 use ss_expr::{Agg, Field};
+use ss_image::ImageFault;
 use ss_meaning::{entries_are_in_order, entries_follow};
 use std::alloc::{AllocError, Global};
+use std::collections::BTreeMap;
 use std::marker::Model;
 
 /// A hopping window: it ends at each multiple of `hop`, and gives an aggregate of the rows of the last `size` for
 /// each key that has one.
 ///
-/// It remembers an entry for each end above Low and each key with a row, in the order of ends and then of keys.
+/// It remembers a total for each end above Low and each key with a row, in the order of ends and then of keys: the
+/// totals of one end stand together, and those of the first end stand in front.
 #[derive(Drop)]
 pub struct Window {
     size: u64,
     hop: u64,
     agg: Agg,
     of: Field,
-    entries: Vec<Entry>,
+    totals: Totals,
 }
 
 impl Model for Window {
+    ghost use Rattle.ss_window.specs.Held.{entries_in};
     ghost use Rattle.ss_window.specs.States.{State, IsSound, state_of};
 
     ghost Value = { State };
 
-    ghost view = { λ w. state_of w.size w.hop w.agg w.of w.entries.items };
+    ghost view = { λ w. state_of w.size w.hop w.agg w.of (entries_in w.totals.entries) };
 
-    ghost invariant = { λ w. IsSound (state_of w.size w.hop w.agg w.of w.entries.items) };
+    ghost invariant = { λ w. IsSound (state_of w.size w.hop w.agg w.of (entries_in w.totals.entries)) };
 }
 
 impl Window {
@@ -53,7 +57,7 @@ impl Window {
             hop,
             agg,
             of,
-            entries: Vec::new(alloc),
+            totals: BTreeMap::new(alloc),
         }
     }
 
@@ -82,14 +86,29 @@ impl Window {
     pub fn counts_few(&self) -> bool
         ensures { IsTrue result ↔ All CountsFew self.now.entries }
     {
-        self.entries.iter().all(|entry| entry.rows() < 1 << 62)
+        all_few(&self.totals)
+    }
+
+    /// How many rows the window gives where Low rises to `low`.
+    pub fn due(&self, low: Bound) -> u64
+        ensures due { result ≡ length (reached low self.now.entries) }
+        ensures few { result < 2 ^ 63 }
+    {
+        closed(&self.totals, low.get()) as u64
     }
 
     /// How many entries the window remembers.
     pub fn held(&self) -> u64
         ensures { result ≡ length self.now.entries }
     {
-        self.entries.len() as u64
+        self.totals.len() as u64
+    }
+
+    /// How many different ends the remembered entries have.
+    pub fn panes(&self) -> u64
+        ensures { result ≡ pane_count self.now.entries }
+    {
+        pane_count(&self.totals)
     }
 
     /// Appends the image of the window's entries.
@@ -97,10 +116,10 @@ impl Window {
     /// An error is want of memory.
     pub fn image(&self, out: &mut Vec<u8>) -> Result<(), AllocError>
         requires { length self.now.entries < 2 ^ 32 }
-        ensures ok { OnOk result (out.new.items ≡ out.old.items ++ image self.now.entries) }
+        ensures ok { OnOk result (out.new.items ≡ out.old.items ++ window_image self.now.entries) }
         ensures err { OnErr result (out.new.items ≡ out.old.items) }
     {
-        put_image(out, &self.entries)
+        put_image(out, &self.totals)
     }
 
     /// The window whose image these bytes are, where Low is `low`.
@@ -118,13 +137,13 @@ impl Window {
         ensures ok { IfOk result (λ w. image_read hop agg low bytes.now ≡ Ok w.entries) }
         ensures fault { IfErr result (λ fault. Fails fault (image_read hop agg low bytes.now)) }
     {
-        let entries = read_image(alloc, hop, agg, low.get(), bytes)?;
+        let totals = read_image(alloc, hop, agg, low.get(), bytes)?;
         Ok(Window {
             size,
             hop,
             agg,
             of,
-            entries,
+            totals,
         })
     }
 
@@ -143,9 +162,8 @@ impl Window {
         let before = row.start / self.hop;
         let last = (row.start + self.size) / self.hop;
         out.reserve(1)?;
-        self.entries.reserve((last - before) as usize)?;
         put_all(
-            &mut self.entries,
+            &mut self.totals,
             self.hop,
             before + 1,
             last + 1,
@@ -153,12 +171,12 @@ impl Window {
             &row.key,
             value(row, self.of),
             self.agg,
-        );
-        Ok(())
+        )
     }
 
     /// Gives the entries up to `low` as rows, and forgets them.
     fn take_rise(&mut self, low: u64, out: &mut Out) -> Result<(), AllocError>
+        requires { low ≤ 2 ^ 63 }
         ensures settings { self.new.settings ≡ self.old.settings }
         ensures entries { OnOk result (self.new.entries ≡ left low self.old.entries) }
         ensures given { OnOk result (out.new.elements ≡ out.old.elements ++ given_at low self.old) }
@@ -166,12 +184,9 @@ impl Window {
         ensures err { OnErr result (self.new ≡ self.old) }
         ensures err_out { OnErr result (out.new.elements ≡ out.old.elements) }
     {
-        let count = closed(&self.entries, low);
+        let count = closed(&self.totals, low);
         out.reserve(count as u64 + 1)?;
-        give(&self.entries[..count], self.hop, out);
-        let left = self.entries.len() - count;
-        self.entries.rotate_left(count);
-        self.entries.truncate(left);
+        give_reached(&mut self.totals, self.hop, low, out);
         Ok(())
     }
 }
@@ -183,18 +198,6 @@ fn value(row: &Event, of: Field) -> i64
     match of {
         Field::A => row.a,
         Field::B => row.b,
-    }
-}
-
-/// Appends the rows of the entries, and leaves a place.
-fn give(entries: &[Entry], hop: u64, out: &mut Out)
-    requires hop { hop ≤ 2 ^ 40 }
-    requires room { length entries.now + 1 ≤ out.old.spare }
-    ensures elements { out.new.elements ≡ out.old.elements ++ rows_of_entries hop entries.now }
-    ensures place { 1 ≤ out.new.spare }
-{
-    for entry in entries {
-        out.push(Element::Row(entry.row(hop)));
     }
 }
 

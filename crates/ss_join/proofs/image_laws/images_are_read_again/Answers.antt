@@ -3,4 +3,6 @@ use Rattle.ss_join.proofs.StateImages.{states_are_read_again}
 use Rattle.ss_join.proofs.image_laws.images_are_read_again.Goals as goal
 
 pub returns : goal.returns
-returns c = record { sides = sides_are_read_again; states = states_are_read_again sides_are_read_again }
+returns c =
+    let sides = sides_are_read_again c.numbers_are_read_again.ensures in
+    record { sides = sides; states = states_are_read_again sides }

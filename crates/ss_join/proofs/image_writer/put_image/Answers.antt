@@ -1,8 +1,8 @@
 use Rattle.std.proofs.Common.{◌≡◌, ℕ, List, ◌++◌, length, ap, ◌∙◌}
 use Rattle.std.proofs.lemmas.List.{append_assoc}
 use Rattle.std.specs.List.{flat_map}
-use Rattle.ss_join.specs.Numbers.{number_bytes}
-use Rattle.ss_join.specs.Images.{row_bytes, image}
+use Rattle.ss_image.specs.Numbers.{number_bytes}
+use Rattle.ss_image.specs.Images.{row_bytes, join_image}
 use Rattle.ss_join.proofs.image_writer.put_image.Goals as goal
 
 regrouped : (old a b c d : List ℕ) → old ++ a ++ b ++ c ++ d ≡ old ++ (a ++ b ++ c ++ d)
@@ -15,7 +15,7 @@ four old p a b c d a' b' q r s t g h i j k ea eb =
     ∙ (ap (λ x. old ++ x ++ b ++ c ++ d) ea ∙ (ap (λ x. old ++ a' ++ x ++ c ++ d) eb ∙ regrouped old a' b' c d)))
 
 pub returns-clause-ok : goal.returns-clause-ok
-unfolding image
+unfolding join_image
 returns-clause-ok c =
     four c.args.out.now.items c.reserve.new.self.items c.bytes_of_u32.result c.bytes_of_u32-2.result
     (flat_map row_bytes c.args.left.now) (flat_map row_bytes c.args.right.now)

@@ -2,8 +2,8 @@ use Rattle.std.proofs.Common.{◌≡◌, ℕ, List, ◌++◌, ap, ◌∙◌, ℤ
 use Rattle.std.proofs.lemmas.List.{append_assoc}
 use Rattle.std.proofs.lemmas.Int.{to_z-of_z}
 use Rattle.std.specs.Int.{w64, cast_unsigned}
-use Rattle.ss_join.specs.Numbers.{number_bytes, key_bytes}
-use Rattle.ss_join.specs.Images.{row_bytes}
+use Rattle.ss_image.specs.Numbers.{number_bytes, key_bytes}
+use Rattle.ss_image.specs.Images.{row_bytes}
 use Rattle.ss_join.proofs.image_writer.put_row.Goals as goal
 
 regrouped : (old a b c d e : List ℕ) → old ++ a ++ b ++ c ++ d ++ e ≡ old ++ (a ++ b ++ c ++ d ++ e)

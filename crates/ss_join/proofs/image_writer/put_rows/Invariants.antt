@@ -1,6 +1,6 @@
 use Rattle.std.proofs.Common.{◌≡◌, ◌+◌, ◌-◌, ◌*◌, ◌≤◌, ◌++◌, length, take, vec_len, vec_capacity}
 use Rattle.std.specs.List.{flat_map}
-use Rattle.ss_join.specs.Images.{row_bytes}
+use Rattle.ss_image.specs.Images.{row_bytes}
 use Rattle.ss_join.proofs.image_writer.put_rows.Given as goal
 
 abbrev pub invariant-loop-row : goal.invariant-loop-row

@@ -1,11 +1,11 @@
 use Rattle.std.proofs.Common.{refl}
-use Rattle.ss_window.specs.Numbers.{number_bytes, number_at, key_bytes, key_in}
-use Rattle.ss_window.specs.Images.{entry_bytes, image}
+use Rattle.ss_image.specs.Numbers.{number_bytes, number_at, key_bytes, key_in}
+use Rattle.ss_image.specs.Images.{entry_bytes, window_image}
 use Rattle.ss_window.specs.ImageTests.{entry_read, entries_read}
 use Rattle.ss_window.proofs.image_laws.image_examples.Goals as goal
 
 pub returns-clause-two_entries : goal.returns-clause-two_entries
-unfolding image entry_bytes number_bytes key_bytes
+unfolding window_image entry_bytes number_bytes key_bytes
 returns-clause-two_entries c = refl
 
 pub returns-clause-negative : goal.returns-clause-negative

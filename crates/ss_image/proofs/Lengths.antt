@@ -1,0 +1,95 @@
+-- How long the bytes of numbers, keys, entries and rows are.
+use Rattle.std.proofs.Common.{◌≡◌, ℕ, ◌+◌, ◌-◌, ◌*◌, ◌≤◌, List, [], ◌∷◌, ◌++◌, length, arith}
+use Rattle.std.specs.Prelude.{replicate}
+use Rattle.std.specs.Int.{w64, w128, to_be_bytes, cast_unsigned}
+use Rattle.std.specs.List.{flat_map, prefix_len}
+use Rattle.std.proofs.lemmas.List.{length-append, length-replicate, length-take}
+use Rattle.byteorder.specs.Numbers.{length-bytes_high_first}
+use Rattle.ss_elem.specs.Key.{is_not_zero, key_text}
+use Rattle.ss_elem.specs.declared.element.Event.{Event}
+use Rattle.ss_meaning.specs.Entries.{WindowEntry}
+use Rattle.ss_image.specs.Images.{entry_bytes, row_bytes, window_image, join_image}
+use Rattle.ss_image.specs.Laws.{WindowImagesHaveLengths, JoinImagesHaveLengths}
+use Rattle.ss_image.specs.Numbers.{number_bytes, key_bytes}
+
+pub length-number_bytes : (len n : ℕ) → length (number_bytes len n) ≡ len
+unfolding number_bytes
+length-number_bytes len n = length-bytes_high_first len n
+
+pub length-key_bytes : (key : ℕ) → length (key_bytes key) ≡ 16
+unfolding key_bytes
+length-key_bytes key =
+    let short : length (key_text key) ≤ 16 = omega (arith, length-take (prefix_len is_not_zero (to_be_bytes w128 key)) (to_be_bytes w128 key)) in
+    omega (arith, length-append (key_text key) (replicate (16 - length (key_text key)) 0), length-replicate {A = ℕ} (16 - length (key_text key)) 0)
+
+pub length-entry_bytes : (e : WindowEntry) → length (entry_bytes e) ≡ 48
+unfolding entry_bytes
+length-entry_bytes e =
+    let a = number_bytes 8 e.end in
+    let k = key_bytes e.key in
+    let v = number_bytes 16 (cast_unsigned w128 e.value) in
+    let r = number_bytes 8 e.rows in
+    omega (
+      arith,
+      length-append (a ++ k ++ v) r,
+      length-append (a ++ k) v,
+      length-append a k,
+      length-number_bytes 8 e.end,
+      length-key_bytes e.key,
+      length-number_bytes 16 (cast_unsigned w128 e.value),
+      length-number_bytes 8 e.rows,
+    )
+
+pub length-row_bytes : (row : Event) → length (row_bytes row) ≡ 48
+unfolding row_bytes
+length-row_bytes row =
+    let s = number_bytes 8 row.start in
+    let e = number_bytes 8 row.end in
+    let k = key_bytes row.key in
+    let a = number_bytes 8 (cast_unsigned w64 row.a) in
+    let b = number_bytes 8 (cast_unsigned w64 row.b) in
+    omega (
+      arith,
+      length-append (s ++ e ++ k ++ a) b,
+      length-append (s ++ e ++ k) a,
+      length-append (s ++ e) k,
+      length-append s e,
+      length-number_bytes 8 row.start,
+      length-number_bytes 8 row.end,
+      length-key_bytes row.key,
+      length-number_bytes 8 (cast_unsigned w64 row.a),
+      length-number_bytes 8 (cast_unsigned w64 row.b),
+    )
+
+-- pieces of one length, one behind the other
+pub length-pieces : {A : Type 0} (f : A → List ℕ) (size : ℕ) → ((x : A) → length (f x) ≡ size) → (xs : List A) → length (flat_map f xs) ≡ size * length xs
+length-pieces f size h [] = omega arith
+length-pieces f size h (x ∷ xs) = omega (arith, h x, length-pieces f size h xs, length-append (f x) (flat_map f xs))
+
+pub window_lengths : WindowImagesHaveLengths
+unfolding window_image
+window_lengths entries =
+    omega (
+      arith,
+      length-append (number_bytes 4 (length entries)) (flat_map entry_bytes entries),
+      length-number_bytes 4 (length entries),
+      length-pieces entry_bytes 48 length-entry_bytes entries,
+    )
+
+pub join_lengths : JoinImagesHaveLengths
+unfolding join_image
+join_lengths left right =
+    let l = number_bytes 4 (length left) in
+    let r = number_bytes 4 (length right) in
+    let ls = flat_map row_bytes left in
+    let rs = flat_map row_bytes right in
+    omega (
+      arith,
+      length-append (l ++ r ++ ls) rs,
+      length-append (l ++ r) ls,
+      length-append l r,
+      length-number_bytes 4 (length left),
+      length-number_bytes 4 (length right),
+      length-pieces row_bytes 48 length-row_bytes left,
+      length-pieces row_bytes 48 length-row_bytes right,
+    )

@@ -1,0 +1,8 @@
+use Rattle.ss_image.proofs.Lengths.{window_lengths, join_lengths}
+use Rattle.ss_image.proofs.laws.images_have_lengths.Goals as goal
+
+pub returns-clause-window : goal.returns-clause-window
+returns-clause-window c = window_lengths
+
+pub returns-clause-join : goal.returns-clause-join
+returns-clause-join c = join_lengths

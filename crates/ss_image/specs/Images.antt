@@ -1,0 +1,35 @@
+-- The image of an operator: the bytes of what it remembers.
+use Rattle.std.specs.Prelude.{ℕ, List, [], ◌++◌, length}
+use Rattle.std.specs.Int.{w64, w128, cast_unsigned}
+use Rattle.std.specs.List.{flat_map}
+use Rattle.ss_elem.specs.declared.element.Event.{Event}
+use Rattle.ss_meaning.specs.Entries.{WindowEntry, Entries, NoEntries, WindowEntries, JoinRows}
+use Rattle.ss_image.specs.Numbers.{number_bytes, key_bytes}
+
+-- an entry of a window in 48 bytes: its end, its key, its value as two's complement of 128 bits, and how many rows it
+-- counts
+unfoldable pub entry_bytes : WindowEntry → List ℕ
+entry_bytes e =
+    number_bytes 8 e.end ++ key_bytes e.key ++ number_bytes 16 (cast_unsigned w128 e.value) ++ number_bytes 8 e.rows
+
+-- how many entries there are, and then each of them
+unfoldable pub window_image : List WindowEntry → List ℕ
+window_image entries = number_bytes 4 (length entries) ++ flat_map entry_bytes entries
+
+-- a row in 48 bytes: its start, its end, its key, and its values as two's complement of 64 bits
+unfoldable pub row_bytes : Event → List ℕ
+row_bytes row =
+    number_bytes 8 row.start ++ number_bytes 8 row.end ++ key_bytes row.key
+    ++ number_bytes 8 (cast_unsigned w64 row.a) ++ number_bytes 8 (cast_unsigned w64 row.b)
+
+-- how many left and how many right rows there are, and then each left and each right row
+unfoldable pub join_image : List Event → List Event → List ℕ
+join_image left right =
+    number_bytes 4 (length left) ++ number_bytes 4 (length right)
+    ++ flat_map row_bytes left ++ flat_map row_bytes right
+
+-- the bytes of what an operator remembers; of nothing there are none
+abbrev pub image_of : Entries → List ℕ
+image_of NoEntries = []
+image_of (WindowEntries entries) = window_image entries
+image_of (JoinRows left right) = join_image left right

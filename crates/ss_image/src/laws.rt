@@ -1,0 +1,7 @@
+ghost use Rattle.ss_image.specs.Laws.{WindowImagesHaveLengths, JoinImagesHaveLengths};
+
+/// An image is as long as its entries are many.
+pub fn images_have_lengths()
+    ensures window { WindowImagesHaveLengths }
+    ensures join { JoinImagesHaveLengths }
+{}
