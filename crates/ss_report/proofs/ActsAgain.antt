@@ -14,17 +14,17 @@ use Rattle.ss_fail.specs.declared.role.Role.{Role}
 use Rattle.ss_fail.specs.Acts.{◌>>=◌, act_line, count_to, replica_of, vertex_of}
 use Rattle.ss_fail.specs.Lines.{said_lines, values_of}
 use Rattle.ss_fail.specs.Scripts.{acts_of}
-use Rattle.ss_report.specs.ReadAgain.{CanBeSaid, HasNames, IsReplicaOf, IsVertexOf, IsWord, is_line_byte, schedule_text}
+use Rattle.ss_report.specs.ReadAgain.{CanBeSaid, HasNames, IsReplicaOf, IsVertexOf, IsWord, is_act_byte, schedule_text}
 use Rattle.ss_report.specs.StateText.{name_of}
 use Rattle.ss_report.specs.TraceText.{act_text}
 use Rattle.ss_report.proofs.Said.{IsHead, Says, read_more, read_only, says}
 use Rattle.ss_report.proofs.Vertices.{count_again, name_word, replica_again, vertex_again}
 use Rattle.ss_report.proofs.Words.{decimal_word, pair_words, word_in_line, words_last}
 
-pair_in_line : (name : List ℕ) (n : ℕ) → IsWord name → n < 2 ^ 64 → list_all is_line_byte (name ++ codes " " ++ decimal n) ≡ true
+pair_in_line : (name : List ℕ) (n : ℕ) → IsWord name → n < 2 ^ 64 → list_all is_act_byte (name ++ codes " " ++ decimal n) ≡ true
 pair_in_line name n word small =
-    ap (list_all is_line_byte) (append_assoc name (codes " ") (decimal n))
-    ∙ list_all-append is_line_byte name (codes " " ++ decimal n)
+    ap (list_all is_act_byte) (append_assoc name (codes " ") (decimal n))
+    ∙ list_all-append is_act_byte name (codes " " ++ decimal n)
     ∙ and_from _ _ (word_in_line name word.1) (word_in_line (decimal n) (decimal_word n small).1)
 
 says_pair : (roles : List Role) (head first : List ℕ) (v n : ℕ) (act : Act) → HasNames roles → v < length roles → n < 2 ^ 64 → IsHead head first
@@ -58,7 +58,7 @@ says_flush roles v count named is some few =
     ∙ ap (λ a. a >>= (λ c. Ok (Flush v c))) (count_again count some few)
 
 -- the text of an act says the act
-says_act : (roles : List Role) (act : Act) → HasNames roles → CanBeSaid roles act → Says roles (act_text roles act) act
+pub says_act : (roles : List Role) (act : Act) → HasNames roles → CanBeSaid roles act → Says roles (act_text roles act) act
 says_act roles (Read v r) named can =
     says_replica roles (codes "read ") (codes "read") v r (λ v r. Read v r) named can
     (record { splits = λ rest. refl; no_comment = λ rest. refl; in_line = refl; some = omega arith }) refl

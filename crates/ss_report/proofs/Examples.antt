@@ -6,10 +6,9 @@ use Rattle.ss_fail.specs.declared.role.Role.{Role}
 use Rattle.ss_job.specs.declared.fault.JobWhy.TheVariants as job
 use Rattle.ss_job.specs.declared.field_name.FieldName.TheVariants.{Where, Size, Hop, Every}
 use Rattle.ss_job.specs.declared.op.Op.TheVariants.{Source, Window, Sink}
-use Rattle.ss_report.specs.FaultText.{fault_text, events_text, job_text}
+use Rattle.ss_report.specs.FaultText.{events_text, job_text}
 use Rattle.ss_report.specs.StateText.{state_text}
 use Rattle.ss_report.specs.WhyText.{job_why, event_why}
-use Rattle.ss_report.specs.declared.fault.Fault.TheVariants as fault
 use Rattle.ss_report.specs.declared.state_row.StateRow.TheVariants as row
 use Rattle.ss_water.specs.declared.node.Kind.TheVariants as kind
 
@@ -48,10 +47,6 @@ job_text-later_input = refl
 
 pub job_text-no_sink : job_text None (job_why job.NoSink) ≡ codes "streamscope: job: no sink\n"
 job_text-no_sink = refl
-
-pub fault_text-not_built : fault_text (fault.NotBuilt 2) ≡ codes "streamscope: job: vertex 2: not built yet\n"
-unfolding digits
-fault_text-not_built = refl
 
 -- a source `in`, a window `w` and a sink `out`
 abbrev pub roles : List Role

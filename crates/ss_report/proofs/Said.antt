@@ -12,12 +12,12 @@ use Rattle.ss_fail.specs.declared.act.Act.{Act}
 use Rattle.ss_fail.specs.declared.role.Role.{Role}
 use Rattle.ss_fail.specs.Acts.{act_line}
 use Rattle.ss_fail.specs.Lines.{is_comment, said_line, said_lines, then_values, values_of, words}
-use Rattle.ss_report.specs.ReadAgain.{is_line_byte}
-use Rattle.ss_report.proofs.Words.{not_true}
+use Rattle.ss_report.specs.ReadAgain.{is_act_byte, is_line_byte}
+use Rattle.ss_report.proofs.Words.{act_in_line, not_true}
 
--- a text is one line, whose words say this act
+-- a text is one line without a colon, whose words say this act
 pub record Says (roles : List Role) (text : List ℕ) (act : Act) : Type 0 where
-  pub in_line : list_all is_line_byte text ≡ true
+  pub in_line : list_all is_act_byte text ≡ true
   pub some : 0 < length text
   pub said : (number : ℕ) → said_line number text ≡ Some (record { number = number; words = words text })
   pub is : act_line roles (words text) ≡ Ok act
@@ -26,7 +26,7 @@ pub record Says (roles : List Role) (text : List ℕ) (act : Act) : Type 0 where
 pub record IsHead (head first : List ℕ) : Type 0 where
   pub splits : (rest : List ℕ) → words (head ++ rest) ≡ first ∷ words rest
   pub no_comment : (rest : List ℕ) → is_comment (head ++ rest) ≡ false
-  pub in_line : list_all is_line_byte head ≡ true
+  pub in_line : list_all is_act_byte head ≡ true
   pub some : 0 < length head
 
 said_text : (text first : List ℕ) (others : List (List ℕ)) (number : ℕ) → words text ≡ first ∷ others → is_comment text ≡ false
@@ -38,11 +38,11 @@ said_text text first others number cut no_comment =
     ∙ no_comment)
 
 pub says : (roles : List Role) (head first rest : List ℕ) (others : List (List ℕ)) (act : Act) → IsHead head first → words rest ≡ others
-    → list_all is_line_byte rest ≡ true → act_line roles (first ∷ others) ≡ Ok act → Says roles (head ++ rest) act
+    → list_all is_act_byte rest ≡ true → act_line roles (first ∷ others) ≡ Ok act → Says roles (head ++ rest) act
 says roles head first rest others act is_head cut in_line is =
     let whole : words (head ++ rest) ≡ first ∷ others = is_head.splits rest ∙ ap (λ ws. first ∷ ws) cut in
     record {
-      in_line = list_all-append is_line_byte head rest ∙ and_from _ _ is_head.in_line in_line;
+      in_line = list_all-append is_act_byte head rest ∙ and_from _ _ is_head.in_line in_line;
       some = omega (arith, is_head.some, length-append head rest);
       said = λ number. said_text (head ++ rest) first others number whole (is_head.no_comment rest);
       is = ap (act_line roles) whole ∙ is;
@@ -61,7 +61,8 @@ more_lines : (text : List ℕ) (parts : List (List ℕ)) → 0 < length parts �
 more_lines text [] some e = absurd (omega (arith, some))
 more_lines text (part ∷ parts) some e = ap (λ t. t ∷ lines_of_parts (part ∷ parts)) e
 
-first_line : (text rest : List ℕ) → list_all is_line_byte text ≡ true → 0 < length text → lines (text ++ 10 ∷ rest) ≡ text ∷ lines rest
+pub first_line : (text rest : List ℕ) → list_all is_line_byte text ≡ true → 0 < length text
+    → lines (text ++ 10 ∷ rest) ≡ text ∷ lines rest
 first_line text rest e some =
     ap lines_of_parts (slice_split_at (λ b. b == 10) text 10 rest (no_newline text e) refl)
     ∙ more_lines text (slice_split (λ b. b == 10) rest) (omega (arith, length-slice_split (λ b. b == 10) rest)) (stripped text e some)
@@ -85,11 +86,11 @@ pub read_more : (roles : List Role) (number : ℕ) (text rest : List ℕ) (act :
     → values_of (act_line roles) (said_lines number (lines ((text ++ codes "\n") ++ rest))) ≡ Ok (act ∷ acts)
 read_more roles number text rest act acts says behind =
     ap (λ (t : List ℕ). values_of (act_line roles) (said_lines number (lines t))) (append_assoc text (codes "\n") rest)
-    ∙ ap (λ ls. values_of (act_line roles) (said_lines number ls)) (first_line text rest says.in_line says.some)
+    ∙ ap (λ ls. values_of (act_line roles) (said_lines number ls)) (first_line text rest (act_in_line text says.in_line) says.some)
     ∙ read_first roles number text (lines rest) act acts says behind
 
 pub read_only : (roles : List Role) (text : List ℕ) (act : Act) → Says roles text act
     → values_of (act_line roles) (said_lines 1 (lines text)) ≡ Ok (act ∷ [])
 read_only roles text act says =
-    ap (λ ls. values_of (act_line roles) (said_lines 1 ls)) (only_line text says.in_line says.some)
+    ap (λ ls. values_of (act_line roles) (said_lines 1 ls)) (only_line text (act_in_line text says.in_line) says.some)
     ∙ read_first roles 1 text [] act [] says refl

@@ -3,7 +3,7 @@ use Rattle.std.specs.Prelude.{ℕ, Bool, true, false, List, ◌++◌, Option, So
 use Rattle.std.specs.Fmt.{decimal}
 use Rattle.ss_report.specs.WhyText.{job_why, event_why, script_why}
 use Rattle.ss_report.specs.declared.fault.Fault.{Fault}
-use Rattle.ss_report.specs.declared.fault.Fault.TheVariants.{Usage, Job, NotBuilt, Events, Inputs}
+use Rattle.ss_report.specs.declared.fault.Fault.TheVariants.{Usage, Job, Events, Inputs}
 use Rattle.ss_report.specs.declared.fault.Fault.TheVariants.{Store, Output, Script, Full, Memory, Damaged}
 
 -- what stands before the cause of a job's fault, which is at a vertex or not
@@ -43,7 +43,6 @@ fault_text Usage =
     codes "usage: streamscope check|plain|play|run|gen SUBJECT"
     ++ codes " [--workers N] [--failures F] [--schedule F] [--trace F]\n"
 fault_text (Job fault) = job_text fault.vertex (job_why fault.why)
-fault_text (NotBuilt vertex) = job_head (Some vertex) ++ codes "not built yet\n"
 fault_text (Events file fault) = events_text file.now fault.row (event_why fault.why)
 fault_text (Inputs file) = unread_text file.now
 fault_text Store = codes "streamscope: store fault\n"

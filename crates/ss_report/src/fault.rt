@@ -12,11 +12,6 @@ pub enum Fault<'a> {
     Usage,
     /// The bytes of the job file say no job.
     Job(JobFault),
-    /// The job has a vertex that can't be run yet.
-    NotBuilt {
-        /// The vertex's number, from 0.
-        vertex: u32,
-    },
     /// The bytes of a source's file are no events.
     Events {
         /// The file's name.
@@ -64,7 +59,7 @@ pub fn status_of(fault: &Fault<'_>) -> u8
 {
     match fault {
         Fault::Usage => 2,
-        Fault::Job(_) | Fault::NotBuilt { .. } => 3,
+        Fault::Job(_) => 3,
         Fault::Events { .. } => 4,
         Fault::Inputs { .. } => 5,
         Fault::Store => 6,

@@ -34,9 +34,7 @@ pub fn fixed_line(fault: &Fault<'_>) -> Option<&'static str>
         Fault::Store => Some(STORE_FAULT),
         Fault::Output => Some(OUTPUT_FAULT),
         Fault::Memory => Some(OUT_OF_MEMORY),
-        Fault::Job(_) | Fault::NotBuilt { .. } | Fault::Events { .. } | Fault::Inputs { .. } => {
-            None
-        }
+        Fault::Job(_) | Fault::Events { .. } | Fault::Inputs { .. } => None,
         Fault::Script { .. } | Fault::Full { .. } | Fault::Damaged { .. } => None,
     }
 }
@@ -64,7 +62,6 @@ fn write_fault(fault: &Fault<'_>, out: &mut Vec<u8>) -> Result<(), Memory>
     match fault {
         Fault::Usage => put(out, &[USAGE.as_bytes()]),
         Fault::Job(fault) => write_job(fault, out),
-        Fault::NotBuilt { vertex } => write_not_built(*vertex, out),
         Fault::Events { file, fault } => write_events(file, fault, out),
         Fault::Inputs { file } => put(out, &[b"streamscope: cannot read ", file.as_bytes(), b"\n"]),
         Fault::Store => put(out, &[STORE_FAULT.as_bytes()]),
@@ -102,15 +99,6 @@ fn put_job_head(vertex: Option<u32>, out: &mut Vec<u8>) -> Result<(), Memory>
             ],
         ),
     }
-}
-
-/// Appends the line of a vertex that isn't built, or a part of it where memory runs out.
-fn write_not_built(vertex: u32, out: &mut Vec<u8>) -> Result<(), Memory>
-    ensures line { OnOk result (out.new.items ≡ out.old.items ++ fault_text (Fault.NotBuilt vertex)) }
-    ensures part { OnErr result (Extends out.old.items out.new.items) }
-{
-    put_job_head(Some(vertex), out)?;
-    put(out, &[b"not built yet\n"])
 }
 
 /// Appends the line of a row that is refused, or a part of it where memory runs out.

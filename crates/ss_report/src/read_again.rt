@@ -1,10 +1,13 @@
 //! What is written of acts is read again.
-ghost use Rattle.ss_report.specs.ReadAgain.{ActIsReadAgain, ActsAreReadAgain};
+ghost use Rattle.ss_report.specs.ReadAgain.{ActIsReadAgain, ActsAreReadAgain, JobsHaveNames, TracesAreReadAgain};
 
-/// The part before the colon of a trace's line, read as a schedule, gives the act of that line again; and those parts
-/// of all lines, each before a newline, give all acts. So it is for the acts that can be made without collection, of
-/// vertices and replicas that are there, where the names of vertices are words and differ.
+/// The text of an act, read as a schedule, gives the act again, and the texts of several, each before a newline, give
+/// all of them: of the acts that can be made without collection, of vertices and replicas that are there, where the
+/// names of vertices are words without a colon and differ. The names of each job are such. So what stands before the
+/// first colon of each line of a trace of a job, read as a schedule of that job, gives the trace's acts again.
 pub fn acts_are_read_again()
     ensures one { ActIsReadAgain }
     ensures all { ActsAreReadAgain }
+    ensures names { JobsHaveNames }
+    ensures traces { TracesAreReadAgain }
 {}

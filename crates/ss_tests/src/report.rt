@@ -41,10 +41,6 @@ fn each_fault_has_its_line(rt: HostRuntime) -> Result<(), Fail> {
             "streamscope: job: vertex 3: size is -25, not 10 to 640\n",
         ),
         (
-            Fault::NotBuilt { vertex: 2 },
-            "streamscope: job: vertex 2: not built yet\n",
-        ),
-        (
             early("in.csv", 2),
             "streamscope: events in.csv: row 2: event starts at 9, before 10\n",
         ),
@@ -63,7 +59,7 @@ fn each_fault_has_its_line(rt: HostRuntime) -> Result<(), Fail> {
         assert!(rt; fixed_line(&fault).unwrap_or(line) == line, "{line}");
     }
     assert!(rt; fixed_line(&Fault::Memory).is_some());
-    assert_eq!(rt; status_of(&Fault::NotBuilt { vertex: 2 }), 3);
+    assert_eq!(rt; status_of(&job_fault(None, JobWhy::NoSink)), 3);
     Ok(())
 }
 
