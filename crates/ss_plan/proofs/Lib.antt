@@ -1,11 +1,12 @@
 pub mod Arriving
 pub mod Beginnings
-pub mod BuiltVertices
 pub mod Cuts
 pub mod Everything
 pub mod Gathering
+pub mod JoinSteps
 pub mod Keeping
 pub mod KeyOrder
+pub mod Marks
 pub mod Meanings
 pub mod Reading
 pub mod SourcePlaces

@@ -13,11 +13,11 @@ use Rattle.ss_job.specs.Sound.{IsSpec}
 use Rattle.ss_job.specs.declared.op.Op.TheVariants as op
 use Rattle.ss_meaning.specs.Emit.{output}
 use Rattle.ss_meaning.specs.Jobs.{IsBefore}
-use Rattle.ss_meaning.specs.Laws.{ArrivalsFollow}
+use Rattle.ss_meaning.specs.Laws.{ArrivalsFollow, ArrivalsMayFollow}
 use Rattle.ss_meaning.specs.Meaning.{Vertex, reads, stream}
 use Rattle.ss_meaning.specs.Merge.{Arrival, merge, from_input}
-use Rattle.ss_plan.specs.Built.{is_built, is_computed}
 use Rattle.ss_plan.specs.Plan.{vertex_at, inputs_read}
+use Rattle.ss_plan.specs.Steps.{EachMayFollow}
 use Rattle.ss_plan.specs.Streams.{MayArrive}
 use Rattle.ss_water.specs.declared.node.Node.{Node}
 
@@ -54,30 +54,19 @@ spec_reads node (source file late) list s e = cc
 spec_reads node (inner t policy) list s e = refl
 spec_reads node (sink file) list s e = cc
 
--- a spec of a job that can be computed
+-- the spec of a job's operator can be computed
 
-pub built_spec : (text : VertexText) (s : Spec) → spec_of_vertex text ≡ Some s → is_built text ≡ true → is_computed s ≡ true
-built_spec (source file late) s e h = cc
-built_spec (inner t policy) s e h = let same : t ≡ s = cc in subst (λ (u : Spec). is_computed u ≡ true) same (by_cases t h)
-  where
-    by_cases : (t : Spec) → is_built (inner t policy) ≡ true → is_computed t ≡ true
-    by_cases (spec.Select test a b) h = refl
-    by_cases spec.Union h = refl
-    by_cases (spec.Window size hop agg of) h = refl
-    by_cases spec.Join h = cc
-built_spec (sink file) s e h = cc
-
-pub computable : (s : Spec) → IsSpec s → is_computed s ≡ true → IsComputable s
-computable (spec.Select test a b) h e = h
-computable spec.Union h e = tt
-computable (spec.Window size hop agg of) h e = record {
+pub computable : (s : Spec) → IsSpec s → IsComputable s
+computable (spec.Select test a b) h = h
+computable spec.Union h = tt
+computable (spec.Window size hop agg of) h = record {
   least_hop = h.hop_of.least_of;
   most_hop = h.hop_of.most_of;
   least_size = h.size_of.least_of;
   most_size = h.size_of.most_of;
   whole = h.multiple;
 }
-computable spec.Join h e = tt
+computable spec.Join h = tt
 
 -- what arrives from inputs that may arrive
 
@@ -135,3 +124,9 @@ arrivals_early law lists may i d h =
     subst (All (IsBefore (2 ^ 63))) c.from (may.times x.input [] inside) in
     let place : length c.before < length (c.before ++ x.element ∷ c.behind) = omega (arith, length-append c.before (x.element ∷ c.behind)) in
     subst (IsBefore (2 ^ 63)) (get_or_at c.before x.element c.behind End (length c.before) refl) (all (length c.before) End place)
+
+pub arrivals_follow : ArrivalsMayFollow → (lists : List (List Element)) → MayArrive lists → EachMayFollow (merge lists)
+arrivals_follow law lists may n x h =
+    let all = merge lists in
+    law lists may.whole (take n all) (drop (n + 1) all) (get_or all n x)
+    (sym (take-append-drop n all) ∙ ap (λ (back : List Arrival). take n all ++ back) (drop_more all n x h))

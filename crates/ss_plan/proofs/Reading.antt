@@ -16,18 +16,16 @@ use Rattle.ss_job.specs.Sound.{IsJob, IsVertex}
 use Rattle.ss_job.specs.declared.op.Op.TheVariants as op
 use Rattle.ss_job.specs.declared.policy.Policy.{Policy}
 use Rattle.ss_meaning.specs.Emit.{output}
-use Rattle.ss_meaning.specs.Jobs.{IsBefore, MayStand}
+use Rattle.ss_meaning.specs.Jobs.{IsBefore, Takes, MayStand}
 use Rattle.ss_meaning.specs.Jobs as meaning_jobs
 use Rattle.ss_meaning.specs.Laws.{MeaningByInputs, MeaningIsWhole}
 use Rattle.ss_meaning.specs.Meaning.{Vertex, Source, Inner, Sink, reads, vertex, stream, streams_at, meaning}
 use Rattle.ss_meaning.specs.Merge.{merge}
-use Rattle.ss_plan.specs.Built.{IsBuilt, is_computed, TakesOne}
 use Rattle.ss_plan.specs.Plan.{PlanText, AreSourceLists, vertices_of, vertex_at, inputs_read, lists_of, source_list}
 use Rattle.ss_plan.specs.Streams.{HoldInputs, MayArrive}
-use Rattle.ss_plan.proofs.BuiltVertices.{each_built}
-use Rattle.ss_plan.proofs.Meanings.{spec_stream, source_stream, spec_reads, built_spec, computable}
+use Rattle.ss_plan.proofs.Meanings.{spec_stream, source_stream, spec_reads, computable}
 use Rattle.ss_plan.proofs.SourcePlaces.{at_op}
-use Rattle.ss_plan.proofs.Vertices.{no_node, no_text, node_of, text_of, vertex_is, vertices_count, plans_mean_jobs}
+use Rattle.ss_plan.proofs.Vertices.{no_node, no_text, node_of, text_of, vertex_is, vertices_count, inputs_count, takes, plans_mean_jobs}
 use Rattle.ss_water.specs.declared.node.Node.{Node}
 use Rattle.ss_water.specs.declared.node.Kind.TheVariants as kind
 
@@ -118,41 +116,34 @@ some_input (inner (spec.Window size hop agg of) policy) role node s e h = h.inpu
 some_input (inner spec.Join policy) role node s e h = let least = h.inputs.least_of in omega (arith, least)
 some_input (sink file) role node s e h = cc
 
-one_input : (text : VertexText) (role : Role) (node : Node) (s : Spec) → spec_of_vertex text ≡ Some s → IsVertex role node text → TakesOne s node.width
-one_input (source file late) role node s e h = cc
-one_input (inner t policy) role node s e h = let same : t ≡ s = cc in subst (λ (u : Spec). TakesOne u node.width) same (by_cases t h)
-  where
-    by_cases : (u : Spec) → IsVertex role node (inner u policy) → TakesOne u node.width
-    by_cases (spec.Select test a b) k = tt
-    by_cases spec.Union k = tt
-    by_cases (spec.Window size hop agg of) k = let least = k.inputs.least_of in let most = k.inputs.most_of in omega (arith, least, most)
-    by_cases spec.Join k = tt
-one_input (sink file) role node s e h = cc
-
-sound_spec : (text : VertexText) (role : Role) (node : Node) (s : Spec) → spec_of_vertex text ≡ Some s → IsVertex role node text → is_computed s ≡ true → IsComputable s
-sound_spec (source file late) role node s e h k = cc
-sound_spec (inner t policy) role node s e h k =
+takes_width : (text : VertexText) (role : Role) (node : Node) (s : Spec) → spec_of_vertex text ≡ Some s → IsVertex role node text → Takes (operator_of s) node.width
+takes_width (source file late) role node s e h = cc
+takes_width (inner t policy) role node s e h =
     let same : t ≡ s = cc in
-    subst IsComputable same (computable t h.sound.0 (subst (λ (u : Spec). is_computed u ≡ true) (sym same) k))
-sound_spec (sink file) role node s e h k = cc
+    subst (λ (u : Spec). Takes (operator_of u) node.width) same (subst (Takes (operator_of t)) (inputs_count node) (takes t role node policy h))
+takes_width (sink file) role node s e h = cc
+
+sound_spec : (text : VertexText) (role : Role) (node : Node) (s : Spec) → spec_of_vertex text ≡ Some s → IsVertex role node text → IsComputable s
+sound_spec (source file late) role node s e h = cc
+sound_spec (inner t policy) role node s e h = let same : t ≡ s = cc in subst IsComputable same (computable t h.sound.0)
+sound_spec (sink file) role node s e h = cc
 
 -- an operator that can be computed
 pub record Operates (node : Node) (s : Spec) : Type 0 where
-  pub computed : is_computed s ≡ true
   pub computable : IsComputable s
   pub some : 1 ≤ node.width
-  pub takes : TakesOne s node.width
+  pub takes : Takes (operator_of s) node.width
 
-pub operates : (plan : PlanText) (v : ℕ) (node : Node) (s : Spec) → Stands plan v node → IsBuilt plan.job → Some s ≡ spec_of plan.job v → Operates node s
-operates plan v node s stands built e =
+pub operates : (plan : PlanText) (v : ℕ) (node : Node) (s : Spec) → Stands plan v node → Some s ≡ spec_of plan.job v → Operates node s
+operates plan v node s stands e =
     let text = text_of plan v in
     let is : spec_of_vertex text ≡ Some s = text_spec plan.job.vertices v s e in
-    let row = built_spec text s is (each_built plan.job.vertices 0 v built stands.inside) in
     let no_role : Role = record { name = []; kind = kind.Sink; replicas = 0 } in
     let in_roles : v < length plan.job.roles = omega (arith, in_graph plan v node stands, stands.job.roles) in
     let sound = stands.job.each v (get_or plan.job.roles v no_role) node text
     (slice_get-get_or plan.job.roles v no_role in_roles) stands.node_is (slice_get-get_or plan.job.vertices v no_text stands.inside) in
-    record { computed = row; takes = one_input text (get_or plan.job.roles v no_role) node s is sound; computable = sound_spec text (get_or plan.job.roles v no_role) node s is sound row; some = some_input text (get_or plan.job.roles v no_role) node s is sound }
+    let role = get_or plan.job.roles v no_role in
+    record { takes = takes_width text role node s is sound; computable = sound_spec text role node s is sound; some = some_input text role node s is sound }
 
 spec_inputs : (plan : PlanText) (v : ℕ) (node : Node) (s : Spec) → Some s ≡ spec_of plan.job v
     → reads (vertex_at node (text_of plan v) (source_list plan v)) ≡ inputs_read node

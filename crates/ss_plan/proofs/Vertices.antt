@@ -4,7 +4,7 @@ use Rattle.std.proofs.lemmas.List.{drop-drop, get_or-drop}
 use Rattle.std.proofs.lemmas.List.Elements.{All-from_recursion}
 use Rattle.std.proofs.lemmas.List.Sums.{sum_by-cons}
 use Rattle.std.proofs.lemmas.List.FromFn.{get_or-map-range_with_len, length-map-range_with_len}
-use Rattle.std.proofs.lemmas.Option.{slice_get-get_or}
+use Rattle.std.proofs.lemmas.Option.{slice_get-get_or, get_or_from_slice_get, slice_get_within}
 use Rattle.std.specs.List.{AllByRecursion, count_by, range_with_len, slice_get}
 use Rattle.ss_elem.specs.Validity.{Whole}
 use Rattle.ss_elem.specs.declared.element.Element.{Element}
@@ -20,7 +20,7 @@ use Rattle.ss_job.specs.declared.policy.Policy.{Policy}
 use Rattle.ss_meaning.specs.Jobs.{IsBefore, Takes, MayStand}
 use Rattle.ss_meaning.specs.Jobs as meaning
 use Rattle.ss_meaning.specs.Meaning.{Vertex, Source, vertex}
-use Rattle.ss_plan.specs.Laws.{PlansMeanJobs}
+use Rattle.ss_plan.specs.Laws.{PlansMeanJobs, AreVertices, VerticesByNumber}
 use Rattle.ss_plan.specs.Plan.{PlanText, AreSourceLists, inputs_read, vertex_at, lists_behind, vertices_with, vertices_of, is_source, sources_before, source_list}
 use Rattle.ss_plan.proofs.SourcePlaces.{place_within}
 use Rattle.ss_water.specs.Graph.{IsLinkedAt}
@@ -74,6 +74,21 @@ vertex_is plan v same h =
     vertex_under plan.job.graph plan.job.vertices plan.lists v h (omega (arith, h))
     ∙ ap (vertex_at (node_of plan v) (text_of plan v)) (get_or-drop n plan.lists 0 [] ∙ ap (λ m. get_or plan.lists m []) (omega arith))
 
+pub vertices_by_number : VerticesByNumber
+vertices_by_number plan job = record {
+  count = vertices_count plan.job.graph plan.job.vertices plan.lists job.vertices;
+  each = each;
+}
+  where
+    each : (v : ℕ) (node : Node) (text : VertexText) → slice_get plan.job.graph v ≡ Some node → slice_get plan.job.vertices v ≡ Some text
+        → vertex (vertices_of plan) v ≡ vertex_at node text (source_list plan v)
+    each v node text h k =
+        let node_is : node_of plan v ≡ node = get_or_from_slice_get plan.job.graph v node no_node h in
+        let text_is : text_of plan v ≡ text = get_or_from_slice_get plan.job.vertices v text no_text k in
+        vertex_is plan v job.vertices (slice_get_within plan.job.graph v node h)
+        ∙ ap (λ (n : Node). vertex_at n (text_of plan v) (source_list plan v)) node_is
+        ∙ ap (λ (t : VertexText). vertex_at node t (source_list plan v)) text_is
+
 -- each may stand where it does
 
 before_times : (xs : List Element) → AllSourceTimes xs → AllByRecursion (IsBefore (2 ^ 62)) xs
@@ -93,7 +108,7 @@ all_earlier nodes v node linked i d h =
     let inside : i < node.width = omega (arith, h, inputs_count node) in
     subst (λ n. n < v) (sym (input_at node i d inside)) (linked.earlier i inside)
 
-takes : (s : Spec) (role : Role) (node : Node) (policy : Policy) → IsVertex role node (inner s policy) → Takes (operator_of s) (length (inputs_read node))
+pub takes : (s : Spec) (role : Role) (node : Node) (policy : Policy) → IsVertex role node (inner s policy) → Takes (operator_of s) (length (inputs_read node))
 takes (spec.Select test a b) role node policy h = let least = h.inputs.least_of in let most = h.inputs.most_of in omega (arith, least, most, inputs_count node)
 takes spec.Union role node policy h = let least = h.inputs.least_of in omega (arith, least, inputs_count node)
 takes (spec.Window size hop agg of) role node policy h =

@@ -1,4 +1,3 @@
-pub mod Built
 pub mod Cutting
 pub mod Dependence
 pub mod Laws

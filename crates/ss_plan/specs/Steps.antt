@@ -1,10 +1,12 @@
 -- What one arrival adds.
-use Rattle.std.specs.Prelude.{◌≡◌, ℕ, ◌+◌, ◌≤◌, List, ◌++◌, map, take, slice_index, slice_set}
+use Rattle.std.specs.Prelude.{◌≡◌, ℕ, ◌+◌, ◌<◌, ◌≤◌, List, [], ◌∷◌, ◌++◌, length, map, take, get_or, slice_index}
+use Rattle.std.specs.Prelude.{slice_set}
 use Rattle.ss_elem.specs.declared.element.Element.{Element}
 use Rattle.ss_elem.specs.declared.element.Element.TheVariants.{Row}
 use Rattle.ss_meaning.specs.Bound.{bound_after}
-use Rattle.ss_meaning.specs.Emit.{Kind, rows_at}
-use Rattle.ss_meaning.specs.Inputs.{least_bound}
+use Rattle.ss_join.specs.States.{Sides, StandsAfter, MayFollow}
+use Rattle.ss_meaning.specs.Emit.{Kind, Join, rows_at, emit}
+use Rattle.ss_meaning.specs.Inputs.{bounds, least_bound}
 use Rattle.ss_meaning.specs.Low.{low, advance}
 use Rattle.ss_meaning.specs.Merge.{Arrival}
 
@@ -23,3 +25,14 @@ Adds kind x bounds before after =
     → after
     ≡ before ++ map (λ row. Row row) (rows_at kind inputs p x)
     ++ advance (least_bound bounds) (least_bound (moved bounds x))
+
+-- each of these may follow in its input, where those before it arrived
+abbrev pub EachMayFollow : List Arrival → Type 0
+EachMayFollow arrived = (n : ℕ) (x : Arrival) → n < length arrived → MayFollow (take n arrived) (get_or arrived n x)
+
+-- behind each p after which a join stood, where these are the bounds after p and x may follow: the join stands after
+-- both, and the elements grew by exactly what it gives at x
+abbrev pub JoinSteps : Sides → Sides → List ℕ → List Element → List Element → Arrival → Type 0
+JoinSteps old new stood before after x =
+    (p : List Arrival) → StandsAfter old p → stood ≡ bounds 2 p → MayFollow p x
+    → StandsAfter new (p ++ x ∷ []) × (after ≡ before ++ emit Join 2 p x)

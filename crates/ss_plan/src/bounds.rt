@@ -1,4 +1,4 @@
-ghost use Rattle.std.specs.Prelude.{◌≡◌, ◌≤◌, ◌<◌, length, slice_index, slice_set, []};
+ghost use Rattle.std.specs.Prelude.{◌≡◌, ◌≤◌, ◌<◌, ℕ, length, slice_index, slice_set, []};
 ghost use Rattle.std.specs.Option.{option_to_list};
 ghost use Rattle.ss_meaning.specs.Bound.{bound_after};
 ghost use Rattle.ss_meaning.specs.Inputs.{bounds, least_bound};
@@ -51,6 +51,13 @@ impl Bounds {
         self.set(input, x);
         let after = self.least();
         given_for(before, after)
+    }
+
+    /// The bounds in the order of the inputs; what stands behind them is none.
+    pub(crate) fn to_array(&self) -> [u64; MOST_INPUTS]
+        ensures { (input : ℕ) → input < length self.now → slice_index result input ≡ slice_index self.now input }
+    {
+        self.bounds
     }
 
     fn set(&mut self, input: u32, x: &Element)

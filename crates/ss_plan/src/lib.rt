@@ -3,12 +3,13 @@
 
 mod arrived;
 mod bounds;
-mod built;
 mod fault;
+mod joins;
 mod laws;
 mod merging;
+mod needed;
 mod operating;
-mod plain;
+mod plain_streams;
 mod plan;
 mod segment;
 mod sources;
@@ -16,8 +17,7 @@ mod stream;
 mod streams;
 mod windows;
 
-pub use built::first_unbuilt;
 pub use fault::PlanFault;
-pub use laws::plans_mean_jobs;
-pub use plain::plain_all;
+pub use laws::{plans_mean_jobs, vertices_by_number};
+pub use plain_streams::{plain, plain_all};
 pub use plan::Plan;

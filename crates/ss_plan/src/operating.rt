@@ -2,13 +2,13 @@ ghost use Rattle.std.specs.Prelude.{◌≡◌, ◌≤◌, ◌<◌, ◌^◌, true
 ghost use Rattle.ss_expr.specs.Operators.{operator_of, is_row_by_row, HasShortRow, IsComputable};
 ghost use Rattle.ss_meaning.specs.Emit.{output};
 ghost use Rattle.std.specs.Option.{option_to_list};
-ghost use Rattle.ss_meaning.specs.Jobs.{IsBefore};
-ghost use Rattle.ss_plan.specs.Built.{TakesOne, is_computed};
-ghost use Rattle.ss_plan.specs.Steps.{moved, Adds, NeverFalls};
+ghost use Rattle.ss_meaning.specs.Jobs.{IsBefore, Takes};
+ghost use Rattle.ss_plan.specs.Steps.{moved, Adds, EachMayFollow, NeverFalls};
 ghost use Rattle.ss_elem.specs.declared.element.Element.TheVariants.{Row};
 
 use crate::arrived::Arrived;
 use crate::bounds::Bounds;
+use crate::joins::join_output;
 use crate::windows::window_output;
 use ss_elem::{Element, Event};
 use ss_expr::{Spec, row_given};
@@ -22,15 +22,15 @@ pub(crate) fn operator_output(
     width: u32,
     arrived: &[Arrived],
 ) -> Result<Vec<Element>, AllocError>
-    requires computed { is_computed spec.now ≡ true }
     requires computable { IsComputable spec.now }
-    requires takes { TakesOne spec.now width }
+    requires takes { Takes (operator_of spec.now) width }
     requires some { 1 ≤ width }
     requires few { width ≤ 8 }
     requires inputs { All (λ x. x.input < width) arrived.now }
     requires times { All (λ x. HasShortRow x.element) arrived.now }
     requires early { All (λ x. IsBefore (2 ^ 63) x.element) arrived.now }
     requires rises { NeverFalls width arrived.now }
+    requires follow { EachMayFollow arrived.now }
     ensures { IfOk result (λ list. list.items ≡ output (operator_of spec.now) width arrived.now) }
 {
     match spec {
@@ -39,7 +39,7 @@ pub(crate) fn operator_output(
         Spec::Window { size, hop, agg, of } => {
             window_output(alloc, *size, *hop, *agg, *of, width, arrived)
         }
-        Spec::Join => unreachable!(),
+        Spec::Join => join_output(alloc, width, arrived),
     }
 }
 

@@ -1,4 +1,4 @@
-ghost use Rattle.std.specs.Prelude.{◌≡◌, ◌<◌, ◌≤◌, ℕ, Some, length, slice_get, IfOk, IfErr, IfSome, IfNone, OnOk};
+ghost use Rattle.std.specs.Prelude.{◌≡◌, ◌<◌, ◌≤◌, Some, length, slice_get, IfOk, IfErr, OnOk};
 
 use crate::fault::PlanFault;
 use crate::sources::{long_source, place_of};
@@ -24,15 +24,17 @@ impl Model for Plan {
     ghost coded = { Prim.hlevel (codes, spec.the_row.coded) };
 
     ghost use Rattle.ss_plan.specs.Plan.{AreSourceLists, lists_of, plan_of};
+    ghost use Rattle.ss_plan.specs.Limit.{AreWithin};
 
     ghost view = { λ plan. plan_of plan.job plan.lists.items };
 
-    ghost invariant = { λ plan. AreSourceLists plan.job (lists_of plan.lists.items) };
+    ghost invariant = { λ plan. AreSourceLists plan.job (lists_of plan.lists.items)
+        × AreWithin (plan_of plan.job plan.lists.items) };
 }
 
 impl Plan {
     ghost use Rattle.ss_plan.specs.Plan.{AreSourceLists, lists_of, plan_of, source_list};
-    ghost use Rattle.ss_plan.specs.Limit.{IsSourcesFault, IsLongSource};
+    ghost use Rattle.ss_plan.specs.Limit.{IsSourcesFault, AreWithin, IsPlan};
     ghost use Rattle.ss_job.specs.JobText.{op_of};
     ghost use Rattle.ss_job.specs.declared.op.Op.TheVariants as op;
 
@@ -41,7 +43,7 @@ impl Plan {
     pub fn of(job: Job, lists: Vec<Vec<Element>>) -> Result<Plan, PlanFault>
         requires { AreSourceLists job (lists_of lists.items) }
         ensures plan { IfOk result (λ plan. plan ≡ plan_of job lists.items) }
-        ensures within { OnOk result ((v : ℕ) → IsLongSource (plan_of job lists.items) v → ⊥) }
+        ensures within { OnOk result (AreWithin (plan_of job lists.items)) }
         ensures fault { IfErr result (IsSourcesFault (plan_of job lists.items)) }
     {
         match long_source(&job, lists.as_slice()) {
@@ -56,6 +58,17 @@ impl Plan {
         ensures lists { AreSourceLists self.now.job self.now.lists }
     {
         &self.job
+    }
+
+    /// The most elements that a stream may have, 1 to 131,072. This is the one reader that says what every plan
+    /// keeps; who needs that calls it, and it costs nothing.
+    pub fn max_elements(&self) -> u64
+        ensures most { result ≡ self.now.job.max_elements }
+        ensures plan { IsPlan self.now }
+    {
+        let job = &self.job;
+        job.graph();
+        job.max_elements()
     }
 
     /// How many elements the list of a source has.

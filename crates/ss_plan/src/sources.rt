@@ -2,7 +2,7 @@ ghost use Rattle.std.specs.Prelude.{◌≡◌, ◌≤◌, ◌<◌, ◌+◌, ℕ,
 ghost use Rattle.ss_job.specs.JobText.{op_of};
 ghost use Rattle.ss_job.specs.declared.op.Op.TheVariants as op;
 ghost use Rattle.ss_plan.specs.Plan.{AreSourceLists, lists_of, plan_of, sources_before};
-ghost use Rattle.ss_plan.specs.Limit.{IsSourcesFault, IsLongSource};
+ghost use Rattle.ss_plan.specs.Limit.{IsSourcesFault, AreWithin};
 ghost use Rattle.ss_plan.specs.declared.fault.PlanFault.TheVariants.{Full};
 
 use ss_elem::Element;
@@ -26,7 +26,7 @@ pub(crate) fn place_of(job: &Job, v: u32) -> usize
 pub(crate) fn long_source(job: &Job, lists: &[Vec<Element>]) -> Option<(u32, u64)>
     requires { AreSourceLists job.now (lists_of lists.now) }
     ensures found { IfSome result (λ long. IsSourcesFault (plan_of job.now lists.now) (Full long.0 long.1)) }
-    ensures none { IfNone result ((v : ℕ) → IsLongSource (plan_of job.now lists.now) v → ⊥) }
+    ensures none { IfNone result (AreWithin (plan_of job.now lists.now)) }
 {
     let limit = job.max_elements();
     let mut place = 0;

@@ -1,7 +1,7 @@
 ghost use Rattle.std.specs.Prelude.{◌≡◌, ◌<◌, ◌≤◌, ℕ, true, [], length, map, get_or, All, IfOk};
-ghost use Rattle.ss_expr.specs.Operators.{IsComputable};
+ghost use Rattle.ss_expr.specs.Operators.{operator_of, IsComputable};
+ghost use Rattle.ss_meaning.specs.Jobs.{Takes};
 ghost use Rattle.ss_meaning.specs.Meaning.{meaning};
-ghost use Rattle.ss_plan.specs.Built.{IsBuilt, TakesOne, is_computed};
 ghost use Rattle.ss_plan.specs.Plan.{inputs_read, lists_of, vertices_of};
 ghost use Rattle.ss_plan.specs.Streams.{operated, streams_read, HoldInputs, MayArrive};
 
@@ -25,7 +25,6 @@ pub(crate) fn stream_of(
     streams: &[Vec<Element>],
 ) -> Result<Vec<Element>, AllocError>
     requires vertex { v < length plan.now.job.vertices }
-    requires built { IsBuilt plan.now.job }
     requires before { v ≤ length streams.now }
     requires inputs { HoldInputs (vertices_of plan.now) v (lists_of streams.now) }
     ensures { IfOk result (λ list. list.items ≡ meaning (vertices_of plan.now) v) }
@@ -54,8 +53,7 @@ fn operator_stream(
     node: &Node,
     streams: &[Vec<Element>],
 ) -> Result<Vec<Element>, AllocError>
-    requires computed { is_computed spec.now ≡ true }
-    requires takes { TakesOne spec.now node.now.width }
+    requires takes { Takes (operator_of spec.now) node.now.width }
     requires computable { IsComputable spec.now }
     requires some { 1 ≤ node.now.width }
     requires few { node.now.width ≤ 8 }

@@ -1,6 +1,5 @@
 ghost use Rattle.std.specs.Prelude.{◌≡◌, ◌<◌, ◌≤◌, ℕ, true, false, [], length, IfOk, IfErr, OnOk};
 ghost use Rattle.ss_meaning.specs.Meaning.{meaning};
-ghost use Rattle.ss_plan.specs.Built.{IsBuilt};
 ghost use Rattle.ss_plan.specs.Limit.{IsLongAmong, IsStreamsFault};
 ghost use Rattle.ss_plan.specs.Plan.{lists_of, vertices_of};
 ghost use Rattle.ss_plan.specs.Streams.{is_wanted, AreWanted, HoldInputs, IsClosed};
@@ -18,7 +17,6 @@ pub(crate) fn streams_wanted(
     plan: &Plan,
     wanted: &[bool],
 ) -> Result<Vec<Vec<Element>>, PlanFault>
-    requires built { IsBuilt plan.now.job }
     requires many { length wanted.now ≡ length plan.now.job.vertices }
     requires closed { IsClosed (vertices_of plan.now) wanted.now }
     ensures streams { IfOk result (λ streams. AreWanted plan.now wanted.now (lists_of streams.items)) }
@@ -56,7 +54,6 @@ fn stream_if(
     streams: &[Vec<Element>],
 ) -> Result<Vec<Element>, AllocError>
     requires vertex { v < length plan.now.job.vertices }
-    requires built { IsBuilt plan.now.job }
     requires before { v ≤ length streams.now }
     requires inputs { wanted ≡ true → HoldInputs (vertices_of plan.now) v (lists_of streams.now) }
     ensures wanted { IfOk result (λ list. wanted ≡ true → list.items ≡ meaning (vertices_of plan.now) v) }

@@ -14,7 +14,6 @@ use Rattle.ss_words.specs.declared.words.Action.{Action}
 use Rattle.ss_words.specs.declared.words.Action.TheVariants.{Check, Plain, Run}
 use Rattle.streamscope.specs.Ends.{Seen, MayHave, StopsAt, WantsMemory, StopsInPuts, Stops, IsDone, EndsBy}
 use Rattle.streamscope.specs.Order.{Reading, Gives, job_file, order_for, order_with, with_streams, with_sources, streams_fit, source_file, Order, first, put}
-use Rattle.ss_plan.specs.Built.{unbuilt}
 use Rattle.streamscope.specs.Output.{Output, job_lines, sink_lines, run_lines, ArePutsOf, check_puts}
 use Rattle.streamscope.specs.Puts.{Went, WentWhole}
 use Rattle.streamscope.specs.Refusal.{Refusal, refusal_of}
@@ -76,78 +75,61 @@ plan_with job lists = record { job = job; lists = lists }
 abbrev pub behind_sources : JobText → (PlanText → Output) → List (List Element) → Order
 behind_sources job output lists = first (streams_fit (plan_with job lists)) (λ _. put (output (plan_with job lists)))
 
-pub streams_unbuilt : (job : JobText) (output : PlanText → Output) (before : Seen) (v : ℕ) → unbuilt job ≡ Some v →
-    Stops (with_streams job output) before before (refusal_of (report.NotBuilt v))
-streams_unbuilt job output before v is = inl (record {
-  cause = inl (inl (inl ((v, is, refl), keeps-same before.inputs)));
-  nothing = Went-same before.outputs;
-})
-
-pub streams_sources : (job : JobText) (output : PlanText → Output) (before : Seen) (read : InputsTold) (refusal : Refusal) → unbuilt job ≡ None →
+pub streams_sources : (job : JobText) (output : PlanText → Output) (before : Seen) (read : InputsTold) (refusal : Refusal) →
     StopsInSources before.inputs read job refusal ⊎ WantsMemory before.inputs read refusal → Stops (with_streams job output) before (at_inputs read before) refusal
-streams_sources job output before read refusal built (inl stop) = inl (record {
-  cause = inl (inr (
-    tt,
-    built,
-    with_sources-at (MayHave before.inputs) (StopsAt before.inputs read refusal) job 0 job.vertices stop.v stop.here.file stop.here.late
-        stop.earlier (behind_sources job output) stop.here.is_source stop.read
-        (subst (λ (n : ℕ). StopsAt before.inputs read refusal (source_file job n stop.here.file stop.here.late)) (sym (zero-add stop.v)) stop.here.stops),
-  ));
+streams_sources job output before read refusal (inl stop) = inl (record {
+  cause = inl (
+      with_sources-at (MayHave before.inputs) (StopsAt before.inputs read refusal) job 0 job.vertices stop.v stop.here.file stop.here.late
+      stop.earlier (behind_sources job output) stop.here.is_source stop.read
+      (subst (λ (n : ℕ). StopsAt before.inputs read refusal (source_file job n stop.here.file stop.here.late)) (sym (zero-add stop.v)) stop.here.stops)
+      );
   nothing = Went-same before.outputs;
 })
-streams_sources job output before read refusal built (inr wants) = inl (record { cause = inr wants; nothing = Went-same before.outputs })
+streams_sources job output before read refusal (inr wants) = inl (record { cause = inr wants; nothing = Went-same before.outputs })
 
 pub streams_wanting : (order : Order) (before : Seen) (read : InputsTold) → KeepsInputs before.inputs read →
     Stops order before (at_inputs read before) (refusal_of report.Memory)
 streams_wanting order before read kept = inl (record { cause = inr (refl, kept); nothing = Went-same before.outputs })
 
-pub streams_done : (action : Action) (job : JobText) (before after : Seen) (lists : List (List Element)) → ¬ (action ≡ Check) → unbuilt job ≡ None →
+pub streams_done : (action : Action) (job : JobText) (before after : Seen) (lists : List (List Element)) → ¬ (action ≡ Check) →
     AreLists (MayHave before.inputs) job 0 job.vertices lists → StreamsFit (plan_with job lists) → KeepsInputs before.inputs after.inputs →
     WentWhole before.outputs after.outputs (puts_of action (plan_with job lists)) → IsDone (with_streams job (output_of action)) before after
-streams_done action job before after lists other built read fit kept whole = record {
+streams_done action job before after lists other read fit kept whole = record {
   output = output_of action (plan_with job lists);
   puts = puts_of action (plan_with job lists);
-  comes = (
-    tt,
-    built,
-    with_sources-read (MayHave before.inputs) (output_of action (plan_with job lists)) job 0 job.vertices lists
-        (behind_sources job (output_of action)) read (tt, fit, refl),
-  );
+  comes =
+      with_sources-read (MayHave before.inputs) (output_of action (plan_with job lists)) job 0 job.vertices lists
+      (behind_sources job (output_of action)) read (tt, fit, refl);
   expected = expected-puts action (plan_with job lists) other;
   whole = whole;
   inputs = kept;
 }
 
-pub streams_late : (action : Action) (job : JobText) (before after : Seen) (lists : List (List Element)) (refusal : Refusal) → ¬ (action ≡ Check) → unbuilt job ≡ None →
+pub streams_late : (action : Action) (job : JobText) (before after : Seen) (lists : List (List Element)) (refusal : Refusal) → ¬ (action ≡ Check) →
     AreLists (MayHave before.inputs) job 0 job.vertices lists → StreamsFit (plan_with job lists) → KeepsInputs before.inputs after.inputs →
     StopsInPuts before.outputs after.outputs (puts_of action (plan_with job lists)) refusal → Stops (with_streams job (output_of action)) before after refusal
-streams_late action job before after lists refusal other built read fit kept cause = inr (record {
+streams_late action job before after lists refusal other read fit kept cause = inr (record {
   output = output_of action (plan_with job lists);
   puts = puts_of action (plan_with job lists);
-  comes = (
-    tt,
-    built,
-    with_sources-read (MayHave before.inputs) (output_of action (plan_with job lists)) job 0 job.vertices lists
-        (behind_sources job (output_of action)) read (tt, fit, refl),
-  );
+  comes =
+      with_sources-read (MayHave before.inputs) (output_of action (plan_with job lists)) job 0 job.vertices lists
+      (behind_sources job (output_of action)) read (tt, fit, refl);
   expected = expected-puts action (plan_with job lists) other;
   cause = cause;
   inputs = kept;
 })
 
-pub streams_long : (action : Action) (job : JobText) (before after : Seen) (lists : List (List Element)) (refusal : Refusal) → unbuilt job ≡ None →
+pub streams_long : (action : Action) (job : JobText) (before after : Seen) (lists : List (List Element)) (refusal : Refusal) →
     AreLists (MayHave before.inputs) job 0 job.vertices lists → StopsInStreams (plan_with job lists) refusal → KeepsInputs before.inputs after.inputs →
     Went before.outputs after.outputs [] → Stops (with_streams job (output_of action)) before after refusal
-streams_long action job before after lists refusal built read (inl found) kept nothing = inl (record {
-  cause = inl (inr (
-    tt,
-    built,
-    with_sources-then (MayHave before.inputs) (StopsAt before.inputs after.inputs refusal) job 0 job.vertices lists
-        (behind_sources job (output_of action)) read (inl (inl (found, kept))),
-  ));
+streams_long action job before after lists refusal read (inl found) kept nothing = inl (record {
+  cause = inl (
+      with_sources-then (MayHave before.inputs) (StopsAt before.inputs after.inputs refusal) job 0 job.vertices lists
+      (behind_sources job (output_of action)) read (inl (inl (found, kept)))
+      );
   nothing = nothing;
 })
-streams_long action job before after lists refusal built read (inr wants) kept nothing = inl (record { cause = inr (wants, kept); nothing = nothing })
+streams_long action job before after lists refusal read (inr wants) kept nothing = inl (record { cause = inr (wants, kept); nothing = nothing })
 
 -- ---- the whole work, once the words are taken
 
@@ -172,19 +154,19 @@ are_source_lists reading job lists are all =
     record { count = lists-count reading job 0 job.vertices lists are; whole = all-whole job lists all; times = all-times job lists all }
 
 -- how the streams of a plan end, as how the work ends
-pub streams_put : (action : Action) (job : JobText) (before : Seen) (read : InputsTold) (after : OutputsTold) (lists : List (List Element)) → ¬ (action ≡ Check) → unbuilt job ≡ None →
+pub streams_put : (action : Action) (job : JobText) (before : Seen) (read : InputsTold) (after : OutputsTold) (lists : List (List Element)) → ¬ (action ≡ Check) →
     AreLists (MayHave before.inputs) job 0 job.vertices lists → KeepsInputs before.inputs read →
     PutsStreams action (plan_with job lists) before.outputs after (Ok tt) → IsDone (order_with action job) before (record { inputs = read; outputs = after })
-streams_put action job before read after lists other built are kept (fit, whole) =
+streams_put action job before read after lists other are kept (fit, whole) =
     subst (λ (order : Order). IsDone order before (record { inputs = read; outputs = after })) (sym (order-streams action job other))
-    (streams_done action job before (record { inputs = read; outputs = after }) lists other built are fit kept whole)
+    (streams_done action job before (record { inputs = read; outputs = after }) lists other are fit kept whole)
 
-pub streams_stop : (action : Action) (job : JobText) (before : Seen) (read : InputsTold) (after : OutputsTold) (lists : List (List Element)) (fault : Fault) → ¬ (action ≡ Check) → unbuilt job ≡ None →
+pub streams_stop : (action : Action) (job : JobText) (before : Seen) (read : InputsTold) (after : OutputsTold) (lists : List (List Element)) (fault : Fault) → ¬ (action ≡ Check) →
     AreLists (MayHave before.inputs) job 0 job.vertices lists → KeepsInputs before.inputs read →
     PutsStreams action (plan_with job lists) before.outputs after (Err fault) → Stops (order_with action job) before (record { inputs = read; outputs = after }) (refusal_of fault)
-streams_stop action job before read after lists fault other built are kept (inl (stops, nothing)) =
+streams_stop action job before read after lists fault other are kept (inl (stops, nothing)) =
     subst (λ (order : Order). Stops order before (record { inputs = read; outputs = after }) (refusal_of fault)) (sym (order-streams action job other))
-    (streams_long action job before (record { inputs = read; outputs = after }) lists (refusal_of fault) built are stops kept nothing)
-streams_stop action job before read after lists fault other built are kept (inr (fit, cause)) =
+    (streams_long action job before (record { inputs = read; outputs = after }) lists (refusal_of fault) are stops kept nothing)
+streams_stop action job before read after lists fault other are kept (inr (fit, cause)) =
     subst (λ (order : Order). Stops order before (record { inputs = read; outputs = after }) (refusal_of fault)) (sym (order-streams action job other))
-    (streams_late action job before (record { inputs = read; outputs = after }) lists (refusal_of fault) other built are fit kept cause)
+    (streams_late action job before (record { inputs = read; outputs = after }) lists (refusal_of fault) other are fit kept cause)

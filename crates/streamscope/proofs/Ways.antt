@@ -13,11 +13,10 @@ use Rattle.ss_job.specs.declared.fault.JobFault.{JobFault}
 use Rattle.ss_job.specs.declared.fault.JobsFault.TheVariants.{At}
 use Rattle.ss_outside.specs.Faults.{Rose}
 use Rattle.ss_outside.specs.Told.{InputsTold}
-use Rattle.ss_report.specs.declared.fault.Fault.TheVariants.{Usage, Job, NotBuilt, Events, Inputs}
+use Rattle.ss_report.specs.declared.fault.Fault.TheVariants.{Usage, Job, Events, Inputs}
 use Rattle.ss_words.specs.Words.{CommandText}
 use Rattle.streamscope.specs.Ends.{MayHave, AreTold, StopsAt}
-use Rattle.streamscope.specs.Order.{Reading, Step, words, job_file, built, source_file, streams_fit, ListRefused, too_long, Value, Gives, Finds, Order, first, put, ComesTo, ComesToStep}
-use Rattle.ss_plan.specs.Built.{unbuilt}
+use Rattle.streamscope.specs.Order.{Reading, Step, words, job_file, source_file, streams_fit, ListRefused, too_long, Value, Gives, Finds, Order, first, put, ComesTo, ComesToStep}
 use Rattle.streamscope.specs.Output.{Output}
 use Rattle.streamscope.specs.Refusal.{Refusal, refusal_of, shared}
 
@@ -43,7 +42,6 @@ pub same_value : (R S : Reading) → Agree R S → OneReading → (step : Step) 
 same_value R S agree one (words asked) v w h k = sym (ap (λ (o : Option CommandText). unwrap_or o w) k) ∙ ap (λ (o : Option CommandText). unwrap_or o w) h
 same_value R S agree one (job_file file) v w (x, read, says) (y, read_too, says_too) =
     one.one_job x w v (subst (λ (b : List ℕ). Says b w) (agree.bytes file x y read read_too) says_too) says
-same_value R S agree one (built job) v w h k = refl
 same_value R S agree one (streams_fit plan) v w h k = refl
 same_value R S agree one (source_file job n file late) v w (x, read, has, short) (y, read_too, has_too, short_too) =
     let same : event_list y late ≡ event_list x late = ap (λ (b : List ℕ). event_list b late) (agree.bytes file x y read read_too) in cc
@@ -53,7 +51,6 @@ pub gives_or_finds : (R S : Reading) → Agree R S → OneReading → (step : St
 gives_or_finds R S agree one (words asked) v refusal h (none, is) = absurd (cc (h, none))
 gives_or_finds R S agree one (job_file file) v refusal (x, read, says) (y, fault, read_too, refused, is) =
     one.no_fault x v fault says (subst (λ (b : List ℕ). Refuses b (At fault)) (agree.bytes file x y read read_too) refused)
-gives_or_finds R S agree one (built job) v refusal h (w, operator, is) = absurd (cc (h, operator))
 gives_or_finds R S agree one (source_file job n file late) v refusal (x, read, has, short) (y, read_too, refused) =
     let same : event_list y late ≡ event_list x late = ap (λ (b : List ℕ). event_list b late) (agree.bytes file x y read read_too) in
     let long = subst (λ (r : Result (List Element) EventFault). ListRefused job n file r refusal) (same ∙ has) refused in
@@ -87,9 +84,6 @@ same_finding R S agree one (job_file file) refusal other (x, fault, read, refuse
     let alike : fault ≡ fault_too = one.one_fault x fault fault_too refused
     (subst (λ (b : List ℕ). Refuses b (At fault_too)) (agree.bytes file x y read read_too) refused_too) in
     is_too ∙ sym (ap (λ (f : JobFault). refusal_of (Job f)) alike) ∙ sym is
-same_finding R S agree one (built job) refusal other (v, operator, is) (w, operator_too, is_too) =
-    let alike : Some v ≡ Some w = sym operator ∙ operator_too in
-    is_too ∙ sym (ap (λ (o : Option ℕ). refusal_of (NotBuilt (unwrap_or o 0))) alike) ∙ sym is
 same_finding R S agree one (source_file job n file late) refusal other (x, read, refused) (y, read_too, refused_too) =
     let same : event_list y late ≡ event_list x late = ap (λ (b : List ℕ). event_list b late) (agree.bytes file x y read read_too) in
     one_list (event_list x late) refused (subst (λ (r : Result (List Element) EventFault). ListRefused job n file r other) same refused_too)

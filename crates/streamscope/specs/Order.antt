@@ -9,12 +9,11 @@ use Rattle.ss_job.specs.JobText.{VertexText, source, inner, sink, JobText}
 use Rattle.ss_job.specs.Says.{Says, Refuses}
 use Rattle.ss_job.specs.declared.fault.JobFault.{JobFault}
 use Rattle.ss_job.specs.declared.fault.JobsFault.TheVariants.{At}
-use Rattle.ss_plan.specs.Built.{unbuilt}
 use Rattle.ss_plan.specs.Limit.{IsFirst, IsLongAmong}
 use Rattle.ss_plan.specs.Plan.{PlanText}
 use Rattle.ss_plan.specs.Streams.{every}
 use Rattle.ss_report.specs.StateText.{name_of}
-use Rattle.ss_report.specs.declared.fault.Fault.TheVariants.{Usage, Job, NotBuilt, Events, Full}
+use Rattle.ss_report.specs.declared.fault.Fault.TheVariants.{Usage, Job, Events, Full}
 use Rattle.ss_words.specs.Words.{CommandText}
 use Rattle.ss_words.specs.declared.words.Action.{Action}
 use Rattle.ss_words.specs.declared.words.Action.TheVariants.{Check, Plain, Run}
@@ -33,8 +32,6 @@ pub data Step : Type 0 where
   words : Asked → Step
   -- read the job that a file says
   job_file : List ℕ → Step
-  -- see that each vertex of a job can be run
-  built : JobText → Step
   -- read the elements that the file of a source has, and measure them: of the job, the vertex
   source_file : JobText → ℕ → List ℕ → Late → Step
   -- see that no stream is too long
@@ -44,7 +41,6 @@ pub data Step : Type 0 where
 abbrev pub Value : Step → Type 0
 Value (words asked) = CommandText
 Value (job_file file) = JobText
-Value (built job) = ⊤
 Value (source_file job v file late) = List Element
 Value (streams_fit plan) = ⊤
 
@@ -52,7 +48,6 @@ Value (streams_fit plan) = ⊤
 abbrev pub file_read : Step → Option (List ℕ)
 file_read (words asked) = None
 file_read (job_file file) = Some file
-file_read (built job) = None
 file_read (source_file job v file late) = Some file
 file_read (streams_fit plan) = None
 
@@ -73,7 +68,6 @@ Reading = List ℕ → List ℕ → Type 0
 abbrev pub Gives : Reading → (step : Step) → Value step → Type 0
 Gives reading (words asked) command = asked ≡ Some command
 Gives reading (job_file file) job = (bytes : List ℕ) × reading file bytes × Says bytes job
-Gives reading (built job) nothing = unbuilt job ≡ None
 Gives reading (source_file job v file late) list =
     (bytes : List ℕ) × reading file bytes × (event_list bytes late ≡ Ok list) × (length list ≤ job.max_elements)
 Gives reading (streams_fit plan) nothing = (v : ℕ) → IsLongAmong every plan v → ⊥
@@ -84,7 +78,6 @@ Finds reading (words asked) refusal = (asked ≡ None) × (refusal ≡ refusal_o
 Finds reading (job_file file) refusal =
     (bytes : List ℕ) × (fault : JobFault) × reading file bytes × Refuses bytes (At fault)
     × (refusal ≡ refusal_of (Job fault))
-Finds reading (built job) refusal = (v : ℕ) × (unbuilt job ≡ Some v) × (refusal ≡ refusal_of (NotBuilt v))
 Finds reading (source_file job v file late) refusal =
     (bytes : List ℕ) × reading file bytes × ListRefused job v file (event_list bytes late) refusal
 Finds reading (streams_fit plan) refusal =
@@ -105,12 +98,12 @@ with_sources job v (source file late ∷ vertices) next =
 with_sources job v (inner spec policy ∷ vertices) next = with_sources job (v + 1) vertices next
 with_sources job v (sink file ∷ vertices) next = with_sources job (v + 1) vertices next
 
--- reads the sources of a job that can be run, computes its streams, and goes on with what is put of the plan
+-- reads the sources of a job, computes its streams, and goes on with what is put of the plan
 abbrev pub with_streams : JobText → (PlanText → Output) → Order
 with_streams job output =
-    first (built job) (λ _. with_sources job 0 job.vertices (λ lists.
+    with_sources job 0 job.vertices (λ lists.
     let plan : PlanText = record { job = job; lists = lists } in
-    first (streams_fit plan) (λ _. put (output plan))))
+    first (streams_fit plan) (λ _. put (output plan)))
 
 -- each action, once its job is read
 abbrev pub order_with : Action → JobText → Order

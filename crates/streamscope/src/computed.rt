@@ -1,5 +1,4 @@
 ghost use Rattle.std.specs.Prelude.{◌≡◌, ◌≢◌};
-ghost use Rattle.ss_plan.specs.Built.{IsBuilt};
 ghost use Rattle.ss_words.specs.declared.words.Action.TheVariants.{Check};
 ghost use Rattle.streamscope.specs.Computed.{PutsStreams};
 
@@ -18,8 +17,7 @@ pub(crate) fn put_streams<'a, O: Outputs>(
     plan: &'a Plan,
     outputs: &mut O,
 ) -> Result<(), Fault<'a>>
-    requires action { action ≢ Check }
-    requires built { IsBuilt plan.now.job }
+    requires { action ≢ Check }
     ensures { PutsStreams action plan.entry.now (O.told outputs.old) (O.told outputs.new) result }
 {
     let streams = match plain_all(alloc, plan) {

@@ -18,7 +18,7 @@ use std::alloc::Global;
 /// |---|---|
 /// | 0 | nothing: the work is done, and all that belongs to it is written |
 /// | 2 | the words are no command |
-/// | 3 | the job file says no job, or one that can't be run yet |
+/// | 3 | the job file says no job |
 /// | 4 | a source's file is no file of events |
 /// | 5 | a file could not be read |
 /// | 7 | an output failed |

@@ -9,7 +9,7 @@ use crate::perform::refuse;
 use crate::sources::read_sources;
 use ss_job::Job;
 use ss_outside::{Depot, Inputs, Outputs};
-use ss_plan::{Plan, PlanFault, first_unbuilt};
+use ss_plan::{Plan, PlanFault};
 use ss_report::Fault;
 use ss_words::Action;
 use std::alloc::Global;
@@ -27,12 +27,6 @@ pub(crate) fn run<I: Inputs, O: Outputs, D: Depot>(
         (seen I.told O.told outside.old) (seen I.told O.told outside.new) result }
     ensures depot { outside.new.depot ≡ outside.old.depot }
 {
-    match first_unbuilt(&job) {
-        Some(vertex) => {
-            return refuse(alloc, &mut outside.outputs, &Fault::NotBuilt { vertex });
-        }
-        None => (),
-    }
     let lists = match read_sources(alloc, &mut outside.inputs, &job) {
         Ok(lists) => lists,
         Err(fault) => return refuse(alloc, &mut outside.outputs, &fault),

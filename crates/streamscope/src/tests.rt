@@ -6,6 +6,7 @@ mod documents;
 mod ends;
 mod entries;
 mod events;
+mod joins;
 mod made;
 mod operators;
 mod runs;

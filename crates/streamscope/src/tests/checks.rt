@@ -1,4 +1,4 @@
-use super::{CHECK, Command, EVENTS, JOB, Left, RUN, check_left};
+use super::{CHECK, Command, JOB, Left, check_left};
 use std::test::Fail;
 
 const WINDOW: &[u8] = b"
@@ -6,14 +6,6 @@ vertex = [
     { name = 'in', op = 'source', file = 'in.csv' },
     { name = 'w', op = 'window', inputs = ['in'], size = 20, hop = 10, agg = 'sum' },
     { name = 'out', op = 'sink', inputs = ['w'], file = 'out.csv' },
-]
-";
-
-const JOIN: &[u8] = b"
-vertex = [
-    { name = 'in', op = 'source', file = 'in.csv' },
-    { name = 'j', op = 'join', inputs = ['in', 'in'] },
-    { name = 'out', op = 'sink', inputs = ['j'], file = 'out.csv' },
 ]
 ";
 
@@ -67,44 +59,6 @@ fn a_job_is_told_vertex_by_vertex(rt: HostRuntime) -> Result<(), Fail> {
         let left = Left {
             status: 0,
             texts: &[("-", lines)],
-        };
-        check_left(&rt, rt.alloc(), what, command, left)?;
-    }
-    Ok(())
-}
-
-#[test]
-fn a_join_is_not_run(rt: HostRuntime) -> Result<(), Fail> {
-    let cases: [(&str, &[u8], &[u8], &str); 3] = [
-        (
-            "a join",
-            JOIN,
-            EVENTS,
-            "streamscope: job: vertex 1: not built yet\n",
-        ),
-        (
-            "a join over a file with a fault",
-            JOIN,
-            b"evnt\n",
-            "streamscope: job: vertex 1: not built yet\n",
-        ),
-        (
-            "every op, of missing files",
-            EVERY_OP,
-            EVENTS,
-            "streamscope: job: vertex 5: not built yet\n",
-        ),
-    ];
-    for (what, job, events, line) in cases {
-        let command = Command {
-            words: &RUN,
-            files: &[("job.toml", job), ("in.csv", events)],
-            reads: &[2],
-            puts: &[],
-        };
-        let left = Left {
-            status: 3,
-            texts: &[("!", line)],
         };
         check_left(&rt, rt.alloc(), what, command, left)?;
     }

@@ -96,7 +96,8 @@ const ENTRIES: [(&str, &str); 71] = [
         "vertex 2: input names no earlier vertex",
     ),
     (
-        "name = 's', op = 'sink', inputs = ['in'], file = 'f' }, { name = 'x', op = 'join', inputs = ['s', 'no'], every = 0",
+        "name = 's', op = 'sink', inputs = ['in'], file = 'f' }, \
+         { name = 'x', op = 'join', inputs = ['s', 'no'], every = 0",
         "vertex 2: input is a sink",
     ),
     (
@@ -116,11 +117,13 @@ const ENTRIES: [(&str, &str); 71] = [
         "vertex 1: bad name",
     ),
     (
-        "name = 's', op = 'sink', inputs = ['in'], file = 'f' }, { name = 'x', op = 'sink', inputs = ['in'], file = 'f'",
+        "name = 's', op = 'sink', inputs = ['in'], file = 'f' }, \
+         { name = 'x', op = 'sink', inputs = ['in'], file = 'f'",
         "vertex 2: repeated file",
     ),
     (
-        "name = 's', op = 'sink', inputs = ['in'], file = '-' }, { name = 'x', op = 'sink', inputs = ['in'], file = '-'",
+        "name = 's', op = 'sink', inputs = ['in'], file = '-' }, \
+         { name = 'x', op = 'sink', inputs = ['in'], file = '-'",
         "vertex 2: repeated file",
     ),
     (
@@ -280,7 +283,8 @@ const ENTRIES: [(&str, &str); 71] = [
         "vertex 1: every is 131073, not 1 to 131072",
     ),
     (
-        "name = 'x', op = 'select', inputs = ['in'] }, { name = 'y', op = 'select', inputs = ['x'] }, { name = 'z', op = 'source', file = 'f'",
+        "name = 'x', op = 'select', inputs = ['in'] }, { name = 'y', op = 'select', inputs = ['x'] }, \
+         { name = 'z', op = 'source', file = 'f'",
         "vertex 2: nothing reads this vertex",
     ),
     (
@@ -294,7 +298,8 @@ fn an_entry_is_refused_with_its_first_fault(rt: HostRuntime) -> Result<(), Fail>
     let alloc = rt.alloc();
     for (fields, why) in ENTRIES {
         let job = format!(in alloc;
-            "vertex = [{{ name = 'in', op = 'source', file = 'in.csv' }}, {{ {fields} }}, {{ name = 'out', op = 'sink', inputs = ['x'], file = 'out.csv' }}]"
+            "vertex = [{{ name = 'in', op = 'source', file = 'in.csv' }}, {{ {fields} }}, \
+             {{ name = 'out', op = 'sink', inputs = ['x'], file = 'out.csv' }}]"
         )?;
         check_refused(&rt, alloc, &RUN, job.as_bytes(), why)?;
     }

@@ -88,7 +88,8 @@ fn a_file_name_has_at_most_200_bytes(rt: HostRuntime) -> Result<(), Fail> {
         ),
         (
             format!(in alloc;
-                "vertex = [{{ name = 'a', op = 'source', file = 'f' }}, {{ name = 'o', op = 'sink', inputs = ['a'], file = '{long}f' }}]"
+                "vertex = [{{ name = 'a', op = 'source', file = 'f' }}, \
+                 {{ name = 'o', op = 'sink', inputs = ['a'], file = '{long}f' }}]"
             )?,
             "vertex 1: bad name",
         ),
@@ -106,13 +107,15 @@ fn an_expression_has_at_most_256_bytes(rt: HostRuntime) -> Result<(), Fail> {
     let cases = [
         (
             format!(in alloc;
-                "vertex = [{{ name = 'a', op = 'source', file = 'f' }}, {{ name = 'x', op = 'select', inputs = ['a'], where = 'a > b{spaces}', every = 0 }}]"
+                "vertex = [{{ name = 'a', op = 'source', file = 'f' }}, \
+                 {{ name = 'x', op = 'select', inputs = ['a'], where = 'a > b{spaces}', every = 0 }}]"
             )?,
             "vertex 1: every is 0, not 1 to 131072",
         ),
         (
             format!(in alloc;
-                "vertex = [{{ name = 'a', op = 'source', file = 'f' }}, {{ name = 'x', op = 'select', inputs = ['a'], where = 'a > b{spaces} ', every = 0 }}]"
+                "vertex = [{{ name = 'a', op = 'source', file = 'f' }}, \
+                 {{ name = 'x', op = 'select', inputs = ['a'], where = 'a > b{spaces} ', every = 0 }}]"
             )?,
             "vertex 1: bad expression where at 0",
         ),

@@ -1,4 +1,5 @@
 use super::{Command, Left, OUTPUT_FAULT, RUN, check_left};
+use std::alloc::Global;
 use std::test::Fail;
 
 const PLAIN: [&str; 2] = ["plain", "job.toml"];
@@ -229,6 +230,46 @@ fn a_stream_that_is_too_long_is_told_before_anything_is_put(rt: HostRuntime) -> 
             };
             check_left(&rt, rt.alloc(), what, command, left)?;
         }
+    }
+    Ok(())
+}
+
+/// A source, a union of it with itself, and a sink of each; at most so many elements are allowed.
+fn job_with(alloc: Global, most: u64) -> Result<String, Fail> {
+    let job = format!(in alloc;
+        "job = {{ max_elements = {most} }}
+vertex = [
+    {{ name = 'in', op = 'source', file = 'in.csv' }},
+    {{ name = 'u', op = 'union', inputs = ['in', 'in'] }},
+    {{ name = 'out', op = 'sink', inputs = ['in'], file = 'out.csv' }},
+    {{ name = 'last', op = 'sink', inputs = ['u'], file = 'x.csv' }},
+]
+"
+    )?;
+    Ok(job)
+}
+
+#[test]
+fn a_stream_may_have_as_many_elements_as_the_limit(rt: HostRuntime) -> Result<(), Fail> {
+    let once = "event,1,2,k,1,0\ncti,5\nend\n";
+    let twice = "event,1,2,k,1,0\nevent,1,2,k,1,0\ncti,5\nend\n";
+    let cases: [(u64, u8, &[(&str, &str)]); 3] = [
+        (2, 9, &[("!", "streamscope: stream in passes 2 elements\n")]),
+        (3, 9, &[("!", "streamscope: stream u passes 3 elements\n")]),
+        (4, 0, &[("out.csv", once), ("x.csv", twice)]),
+    ];
+    for (most, status, texts) in cases {
+        let job = job_with(rt.alloc(), most)?;
+        let command = Command {
+            words: &PLAIN,
+            files: &[
+                ("job.toml", job.as_bytes()),
+                ("in.csv", b"event,1,2,k,1,0\ncti,5\n"),
+            ],
+            reads: &[],
+            puts: &[],
+        };
+        check_left(&rt, rt.alloc(), "a limit", command, Left { status, texts })?;
     }
     Ok(())
 }

@@ -8,10 +8,10 @@ use Rattle.ss_meaning.specs.Emit.{output}
 use Rattle.ss_meaning.specs.Meaning.{streams_at}
 use Rattle.ss_meaning.specs.Jobs.{IsBefore}
 use Rattle.ss_meaning.specs.Low.{low}
-use Rattle.ss_plan.specs.Steps.{NeverFalls}
+use Rattle.ss_plan.specs.Steps.{EachMayFollow, NeverFalls}
 use Rattle.ss_meaning.specs.Merge.{Arrival, merge}
 use Rattle.ss_plan.specs.Plan.{inputs_read, lists_of}
-use Rattle.ss_plan.proofs.Meanings.{arrivals_within, arrivals_short, arrivals_early}
+use Rattle.ss_plan.proofs.Meanings.{arrivals_within, arrivals_short, arrivals_early, arrivals_follow}
 use Rattle.ss_plan.proofs.Vertices.{inputs_count}
 use Rattle.ss_plan.proofs.stream.operator_stream.Goals as goal
 
@@ -79,6 +79,15 @@ operator_output-requires-clause-rises c =
     λ n. subst (λ m. low m (take n (merge lists)) ≤ low m (take (n + 1) (merge lists))) count
     (c.low_never_falls.ensures.rises lists c.requires.arrive.whole n (n + 1) (omega arith)) in
     subst (NeverFalls c.args.node.now.width) (sym same) whole
+
+pub operator_output-requires-clause-follow : goal.operator_output-requires-clause-follow
+operator_output-requires-clause-follow c =
+    let lists = streams_at (lists_of c.args.streams.now) (inputs_read c.args.node.now) in
+    let same : c.as_slice-2.result.now ≡ merge lists =
+    c.as_slice-2.ensures.value ∙ c.in_ok-arrived.ensures
+    ∙ ap (λ (l : List (Bor (List Element))). merge (map (λ (one : Bor (List Element)). one.now) l)) c.as_slice.ensures.value
+    ∙ ap merge c.in_ok-lists.ensures in
+    subst EachMayFollow (sym same) (arrivals_follow c.merge_keeps_each_input.ensures.follows lists c.requires.arrive)
 
 pub returns : goal.returns
 returns c =

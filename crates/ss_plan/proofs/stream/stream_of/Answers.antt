@@ -14,21 +14,13 @@ use Rattle.ss_plan.proofs.Gathering.{found}
 use Rattle.ss_plan.proofs.Reading.{stands_from, operates, inputs_within, inputs_arrive, operator_meaning, source_meaning, sink_meaning}
 use Rattle.ss_plan.proofs.stream.stream_of.Goals as goal
 
-pub operator_stream-requires-clause-computed : goal.operator_stream-requires-clause-computed
-operator_stream-requires-clause-computed c =
-    let stands = stands_from c.args.plan.now c.job-job.result.now c.graph.result.now c.args.v c.node-node.result c.job-job.ensures.job
-    c.graph.ensures.sound c.job-job.ensures.lists c.requires.vertex c.graph.ensures.graph c.node-node.ensures.node
-    c.meaning_is_made_of_the_inputs.ensures c.meaning_is_whole.ensures in
-    let spec = c.in-Some.ensures ∙ ap (λ (job : JobText). spec_of job c.args.v) c.job-job.ensures.job in
-    (operates c.args.plan.now c.args.v c.node-node.result c.in-Some.spec.now stands c.requires.built spec).computed
-
 pub operator_stream-requires-clause-computable : goal.operator_stream-requires-clause-computable
 operator_stream-requires-clause-computable c =
     let stands = stands_from c.args.plan.now c.job-job.result.now c.graph.result.now c.args.v c.node-node.result c.job-job.ensures.job
     c.graph.ensures.sound c.job-job.ensures.lists c.requires.vertex c.graph.ensures.graph c.node-node.ensures.node
     c.meaning_is_made_of_the_inputs.ensures c.meaning_is_whole.ensures in
     let spec = c.in-Some.ensures ∙ ap (λ (job : JobText). spec_of job c.args.v) c.job-job.ensures.job in
-    (operates c.args.plan.now c.args.v c.node-node.result c.in-Some.spec.now stands c.requires.built spec).computable
+    (operates c.args.plan.now c.args.v c.node-node.result c.in-Some.spec.now stands spec).computable
 
 pub operator_stream-requires-clause-takes : goal.operator_stream-requires-clause-takes
 operator_stream-requires-clause-takes c =
@@ -36,7 +28,7 @@ operator_stream-requires-clause-takes c =
     c.graph.ensures.sound c.job-job.ensures.lists c.requires.vertex c.graph.ensures.graph c.node-node.ensures.node
     c.meaning_is_made_of_the_inputs.ensures c.meaning_is_whole.ensures in
     let spec = c.in-Some.ensures ∙ ap (λ (job : JobText). spec_of job c.args.v) c.job-job.ensures.job in
-    (operates c.args.plan.now c.args.v c.node-node.result c.in-Some.spec.now stands c.requires.built spec).takes
+    (operates c.args.plan.now c.args.v c.node-node.result c.in-Some.spec.now stands spec).takes
 
 pub operator_stream-requires-clause-some : goal.operator_stream-requires-clause-some
 operator_stream-requires-clause-some c =
@@ -44,7 +36,7 @@ operator_stream-requires-clause-some c =
     c.graph.ensures.sound c.job-job.ensures.lists c.requires.vertex c.graph.ensures.graph c.node-node.ensures.node
     c.meaning_is_made_of_the_inputs.ensures c.meaning_is_whole.ensures in
     let spec = c.in-Some.ensures ∙ ap (λ (job : JobText). spec_of job c.args.v) c.job-job.ensures.job in
-    (operates c.args.plan.now c.args.v c.node-node.result c.in-Some.spec.now stands c.requires.built spec).some
+    (operates c.args.plan.now c.args.v c.node-node.result c.in-Some.spec.now stands spec).some
 
 pub operator_stream-requires-clause-inputs : goal.operator_stream-requires-clause-inputs
 operator_stream-requires-clause-inputs c =

@@ -13,7 +13,7 @@ bounds-as_slice-place c =
     let source : op_of c.self.inside.job c.args.v ≡ Some op.Source =
     ap (λ (p : PlanText). op_of p.job c.args.v) c.self.view_is ∙ c.requires in
     let within = source_within c.self.inside.job c.args.v source in
-    omega (arith, within, c.self.invariant.count, c.place_of-place.ensures, c.as_slice.ensures.value, ap length c.as_slice.ensures.value, length-map c.self.inside.lists.items (λ list. list.items))
+    omega (arith, within, c.self.invariant.0.count, c.place_of-place.ensures, c.as_slice.ensures.value, ap length c.as_slice.ensures.value, length-map c.self.inside.lists.items (λ list. list.items))
 
 pub returns : goal.returns
 returns c =
@@ -25,7 +25,7 @@ returns c =
     let source : op_of c.self.inside.job c.args.v ≡ Some op.Source =
     ap (λ (p : PlanText). op_of p.job c.args.v) c.self.view_is ∙ c.requires in
     let inside = source_within c.self.inside.job c.args.v source in
-    omega (arith, inside, c.self.invariant.count, c.place_of-place.ensures, length-map lists (λ list. list.items)) in
+    omega (arith, inside, c.self.invariant.0.count, c.place_of-place.ensures, length-map lists (λ list. list.items)) in
     let found : get_or (lists_of lists) place [] ≡ c.index-as_slice-place.result.items =
     get_or-map (λ (list : Vec Element Global). list.items) lists place c.index-as_slice-place.result [] within
     ∙ ap (λ (list : Vec Element Global). list.items) (sym read) in

@@ -3,7 +3,7 @@ use Rattle.std.proofs.Common.{◌≡◌, ℕ, ◌≤◌, List, length, ap, ◌�
 use Rattle.ss_job.specs.JobText.{JobText}
 use Rattle.ss_plan.specs.Plan.{lists_of}
 use Rattle.ss_plan.proofs.Everything.{all_closed, all_streams, none_long, fault_of_all}
-use Rattle.ss_plan.proofs.plain.plain_all.Goals as goal
+use Rattle.ss_plan.proofs.plain_streams.plain_all.Goals as goal
 
 pub streams_wanted-requires-clause-closed : goal.streams_wanted-requires-clause-closed
 streams_wanted-requires-clause-closed c =
