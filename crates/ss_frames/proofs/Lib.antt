@@ -1,0 +1,9 @@
+pub mod Vertices
+pub mod Numbers
+pub mod Operators
+pub mod Firsts
+pub mod Few
+pub mod Codes
+pub mod Accepting
+pub mod Values
+pub mod Records

@@ -1,0 +1,12 @@
+use Rattle.ss_frames.proofs.Few.{entries_are_few}
+use Rattle.ss_frames.proofs.laws.entries_are_few.Goals as goal
+
+pub returns : goal.returns
+returns c =
+    entries_are_few
+    (record {
+      row = c.entries_follow.ensures.row;
+      grow = c.entries_follow.ensures.grow;
+      counts = c.entries_are_in_order.ensures.counts;
+    })
+    c.vertices_by_number.ensures
