@@ -1,0 +1,13 @@
+pub mod Operators
+pub mod Arrives
+pub mod Streams
+pub mod Equal
+pub mod Numbered
+pub mod Stays
+pub mod Snapshots
+pub mod Padding
+pub mod Accepting
+pub mod Views
+pub mod Shown
+pub mod Executing
+pub mod Loading
