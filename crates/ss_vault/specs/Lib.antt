@@ -1,0 +1,12 @@
+pub mod Answers
+pub mod Calls
+pub mod Counts
+pub mod Devices
+pub mod Examples
+pub mod Facts
+pub mod Numbers
+pub mod NumbersHeld
+pub mod Readers
+pub mod Sound
+pub mod Steps
+pub mod Told

@@ -1,0 +1,89 @@
+ghost use Rattle.std.specs.Prelude.{◌≡◌, ◌+◌, ◌≤◌, ◌<◌, None, length};
+ghost use Rattle.ss_frames.specs.Plans.{plan_numbers};
+ghost use Rattle.ss_state.specs.Numbers.{IsStream};
+ghost use Rattle.ss_vault.specs.Calls.{Flushes};
+ghost use Rattle.ss_vault.specs.Sound.{Sound, elements_from};
+ghost use Rattle.ss_vault.specs.Steps.{AreNext, Stores};
+
+use crate::answers::Flush;
+use crate::facts::{plan_facts, run_facts};
+use crate::fault::VaultFault;
+use crate::storing::append_all;
+use crate::vault::Vault;
+use ss_elem::Element;
+use ss_outside::{Depot, Outputs};
+use ss_plan::Plan;
+
+impl<O: Outputs, D: Depot> Vault<O, D> {
+    ghost use Rattle.ss_vault.specs.Told.{vault_told};
+
+    /// Stores the elements of a batch that aren't yet: at most 64 elements of stream `v`, of which the first has
+    /// number `from`. Where memory is wanting or the depot fails, those before are stored.
+    pub fn flush(
+        &mut self,
+        plan: &Plan,
+        v: u32,
+        from: u64,
+        batch: &[Element],
+    ) -> Result<Flush, VaultFault>
+        requires sound { Sound plan.now (vault_told O.told D.told self.old) }
+        requires stream { IsStream (plan_numbers plan.now) v }
+        requires few { length batch.now ≤ 64 }
+        requires elements { batch.now ≡ elements_from plan.now v from (length batch.now) }
+        requires within { from + length batch.now ≤ (plan_numbers plan.now).max_elements }
+        ensures sound { Sound plan.now (vault_told O.told D.told self.new) }
+        ensures answer { Flushes plan.now v from (length batch.now)
+            (vault_told O.told D.told self.old) result (vault_told O.told D.told self.new) }
+        ensures outputs { (vault_told O.told D.told self.new).outputs ≡ (vault_told O.told D.told self.old).outputs }
+    {
+        plan_facts(plan);
+        let _since = self.numbers.since();
+        if self.halted.is_some() {
+            return Err(VaultFault::Halted);
+        }
+        let dur = self.numbers.dur(v);
+        if from > dur {
+            return Ok(Flush::Apart { from, dur });
+        }
+        let known = dur - from;
+        if batch.len() as u64 <= known {
+            return Ok(Flush::Flushed { count: 0, dur });
+        }
+        if self.numbers.reserve_entry().is_err() {
+            return Err(VaultFault::Memory);
+        }
+        self.store(plan, v, &batch[known as usize..])
+    }
+
+    /// Stores these elements of stream `v`, which follow those that are stored.
+    fn store(&mut self, plan: &Plan, v: u32, elements: &[Element]) -> Result<Flush, VaultFault>
+        requires sound { Sound plan.now (vault_told O.told D.told self.old) }
+        requires going { self.old.halted ≡ None }
+        requires place { 0 < self.old.numbers.places }
+        requires stream { IsStream (plan_numbers plan.now) v }
+        requires some { 0 < length elements.now }
+        requires few { length elements.now ≤ 64 }
+        requires elements { AreNext plan.now v (vault_told O.told D.told self.old) elements.now }
+        ensures sound { Sound plan.now (vault_told O.told D.told self.new) }
+        ensures answer { Stores plan.now v (length elements.now)
+            (vault_told O.told D.told self.old) result (vault_told O.told D.told self.new) }
+        ensures outputs { (vault_told O.told D.told self.new).outputs ≡ (vault_told O.told D.told self.old).outputs }
+    {
+        run_facts();
+        plan_facts(plan);
+        let _since = self.numbers.since();
+        let dur = self.numbers.dur(v);
+        let (count, stop) = append_all(&mut self.depot, v, dur, elements, &mut self.buffer);
+        self.numbers.stored(v, count);
+        match stop {
+            None => Ok(Flush::Flushed {
+                count,
+                dur: dur + count,
+            }),
+            Some(fault) => {
+                self.halted = fault.halts();
+                Err(fault)
+            }
+        }
+    }
+}
