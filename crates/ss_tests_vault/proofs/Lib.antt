@@ -1,0 +1,4 @@
+pub mod Held
+pub mod Sources
+pub mod Streams
+pub mod Wanting

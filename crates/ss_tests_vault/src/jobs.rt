@@ -1,0 +1,171 @@
+//! Three small jobs, with the calls of a whole run of each and what they answer. All is worked out by hand.
+use crate::calls::{Answer, Call};
+use ss_elem::{Element, Event, Key};
+use ss_vault::{Flush, Keep, Read, Take};
+use std::test::Fail;
+
+/// A job with the file of its source, and what its last vertex, the sink, has put to its own file in the end.
+#[derive(Clone, Copy)]
+pub(crate) struct SmallJob<'a> {
+    pub(crate) text: &'a str,
+    pub(crate) input: &'a str,
+    pub(crate) output: &'a str,
+    pub(crate) lines: &'a str,
+    /// How many bytes the first 0, 1, 2 and so on of these lines have.
+    pub(crate) ends: &'a [usize],
+}
+
+/// A source, a select with two replicas, and a sink.
+pub(crate) const SELECT: SmallJob<'static> = SmallJob {
+    text: "
+vertex = [
+    { name = 's', op = 'source', file = 's.csv' },
+    { name = 'w', op = 'select', inputs = ['s'], replicas = 2 },
+    { name = 'o', op = 'sink', inputs = ['w'], file = 'o.csv' },
+]
+",
+    input: "event,1,2,k,1,0\nevent,2,3,k,2,0\nevent,3,4,k,3,0\n",
+    output: "o.csv",
+    lines: "event,1,2,k,1,0\nevent,2,3,k,2,0\nevent,3,4,k,3,0\nend\n",
+    ends: &[0, 16, 32, 48, 52],
+};
+
+/// A source and a sink.
+pub(crate) const COPY: SmallJob<'static> = SmallJob {
+    text: "
+vertex = [
+    { name = 'in', op = 'source', file = 'in.csv' },
+    { name = 'out', op = 'sink', inputs = ['in'], file = 'out.csv' },
+]
+",
+    input: "event,5,9,k,3,0\ncti,10\n",
+    output: "out.csv",
+    lines: "event,5,9,k,3,0\ncti,10\nend\n",
+    ends: &[0, 16, 23, 27],
+};
+
+/// A source, a window, and a sink.
+pub(crate) const WINDOW: SmallJob<'static> = SmallJob {
+    text: "
+vertex = [
+    { name = 'in', op = 'source', file = 'in.csv' },
+    { name = 'w', op = 'window', inputs = ['in'], size = 20, hop = 10, agg = 'sum' },
+    { name = 'out', op = 'sink', inputs = ['w'], file = 'out.csv' },
+]
+",
+    input: "event,5,9,k,3,0\nevent,12,13,k,4,0\ncti,20\n",
+    output: "out.csv",
+    lines: "event,10,20,k,3,1\nevent,20,30,k,7,2\ncti,20\nevent,30,40,k,4,1\nend\n",
+    ends: &[0, 18, 36, 43, 61, 65],
+};
+
+fn row(start: u64, end: u64, a: i64) -> Result<Element, Fail> {
+    let key = Key::of(b"k").ok().ok_or("no key")?;
+    Ok(Element::Row(Event {
+        start,
+        end,
+        key,
+        a,
+        b: 0,
+    }))
+}
+
+/// A call with its answer.
+pub(crate) type Step = (Call, Answer);
+
+const fn flush(v: u32, from: usize, count: usize, answer: Flush) -> Step {
+    (Call::Flush { v, from, count }, Answer::Flush(answer))
+}
+
+const fn flushed(v: u32, from: usize, of: usize, count: u64, dur: u64) -> Step {
+    flush(v, from, of, Flush::Flushed { count, dur })
+}
+
+const fn keep(n: u64, answer: Keep) -> Step {
+    (Call::Keep { n }, Answer::Keep(answer))
+}
+
+const fn fetch(limit: u64, n: u64, out: u64, image: usize) -> Step {
+    (Call::Fetch { limit }, Answer::Fetch { n, out, image })
+}
+
+const fn read(v: u32, n: u64, answer: Read) -> Step {
+    (Call::Read { v, n }, Answer::Read(answer))
+}
+
+const fn take(k: u32, answer: Take) -> Step {
+    (Call::Take { k }, Answer::Take(answer))
+}
+
+/// A run of the job with the select.
+pub(crate) fn run_of_select() -> Result<[Step; 21], Fail> {
+    let first = row(1, 2, 1)?;
+    Ok([
+        flushed(0, 0, 3, 3, 3),
+        flushed(0, 2, 2, 1, 4),
+        flushed(0, 0, 4, 0, 4),
+        flush(1, 1, 1, Flush::Apart { from: 1, dur: 0 }),
+        flushed(1, 0, 2, 2, 2),
+        // At each element it gives one.
+        keep(2, Keep::Kept),
+        keep(2, Keep::Known),
+        keep(1, Keep::Old { low: 2 }),
+        keep(3, Keep::Kept),
+        fetch(2, 2, 2, 0),
+        fetch(3, 3, 3, 0),
+        read(0, 0, Read::Item(first)),
+        read(0, 4, Read::NotYet { dur: 4 }),
+        take(2, Take::Took { n: 0 }),
+        take(2, Take::Took { n: 1 }),
+        take(2, Take::NotYet { dur: 2 }),
+        flushed(1, 2, 2, 2, 4),
+        take(2, Take::Took { n: 2 }),
+        take(2, Take::Took { n: 3 }),
+        take(2, Take::Ended),
+        read(1, 3, Read::Item(Element::End)),
+    ])
+}
+
+/// A run of the job without an operator.
+pub(crate) fn run_of_copy() -> [Step; 10] {
+    [
+        flushed(0, 0, 2, 2, 2),
+        take(1, Take::Took { n: 0 }),
+        read(0, 1, Read::Item(Element::Cti(10))),
+        read(0, 2, Read::NotYet { dur: 2 }),
+        take(1, Take::Took { n: 1 }),
+        take(1, Take::NotYet { dur: 2 }),
+        flush(0, 3, 0, Flush::Apart { from: 3, dur: 2 }),
+        flushed(0, 1, 2, 1, 3),
+        take(1, Take::Took { n: 2 }),
+        take(1, Take::Ended),
+    ]
+}
+
+/// A run of the job with the window. It has given nothing after one and two elements, three after three, and all five
+/// after four. An image has 4 bytes, and 48 for each window end that a row waits for.
+pub(crate) fn run_of_window() -> [Step; 21] {
+    [
+        keep(1, Keep::Kept),
+        keep(0, Keep::Known),
+        keep(3, Keep::Kept),
+        keep(2, Keep::Kept),
+        fetch(0, 2, 0, 148),
+        fetch(3, 3, 3, 52),
+        flushed(1, 0, 3, 3, 3),
+        keep(2, Keep::Known),
+        flushed(0, 0, 4, 4, 4),
+        take(2, Take::Took { n: 0 }),
+        take(2, Take::Took { n: 1 }),
+        take(2, Take::Took { n: 2 }),
+        take(2, Take::NotYet { dur: 3 }),
+        flushed(1, 2, 3, 2, 5),
+        fetch(5, 3, 3, 52),
+        keep(4, Keep::Kept),
+        fetch(5, 4, 5, 4),
+        take(2, Take::Took { n: 3 }),
+        take(2, Take::Took { n: 4 }),
+        take(2, Take::Ended),
+        read(1, 2, Read::Item(Element::Cti(20))),
+    ]
+}
