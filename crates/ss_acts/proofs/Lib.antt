@@ -1,0 +1,9 @@
+pub mod Gathered
+pub mod Goings
+pub mod Flushes
+pub mod Writes
+pub mod Takes
+pub mod Snaps
+pub mod Loads
+pub mod Replies
+pub mod Inputs

@@ -1,0 +1,54 @@
+-- What an act leaves of the parts that it touches, as its reading over their numbers says, and what stays.
+use Rattle.std.specs.Prelude.{◌≡◌, ◌≢◌, ℕ, Bool, true, false, List, Some, None}
+use Rattle.ss_fail.specs.declared.outcome.Outcome.{Outcome}
+use Rattle.ss_plan.specs.Plan.{PlanText}
+use Rattle.ss_state.specs.Acts.{InstStep, InstAndTailStep, TailStep, TailAndVaultStep, VaultStep}
+use Rattle.ss_tail.specs.Held.{TailHeld}
+use Rattle.ss_vault.specs.Counts.{NoneFell}
+use Rattle.ss_vault.specs.Sound.{sink_file}
+use Rattle.ss_vault.specs.Told.{VaultTold, numbers_of, counts_of}
+use Rattle.ss_vertex.specs.Inst.{InstState, inst_numbers}
+
+-- an act that touches a replica has left this one
+abbrev pub LeavesInst : InstStep → InstState → Outcome → Type 0
+LeavesInst did inst outcome = did ≡ record { inst = inst_numbers inst; outcome = outcome }
+
+-- a tail
+abbrev pub LeavesTail : TailStep → TailHeld → Outcome → Type 0
+LeavesTail did tail outcome = did ≡ record { tail = tail.numbers; outcome = outcome }
+
+-- a replica and a tail
+abbrev pub LeavesBoth : InstAndTailStep → InstState → TailHeld → Outcome → Type 0
+LeavesBoth did inst tail outcome =
+    did ≡ record { inst = inst_numbers inst; tail = tail.numbers; outcome = outcome }
+
+-- the vault's numbers
+abbrev pub LeavesVault : VaultStep → VaultTold → Outcome → Type 0
+LeavesVault did vault outcome = did ≡ record { vault = numbers_of vault; outcome = outcome }
+
+-- a tail and the vault's numbers
+abbrev pub LeavesTailAndVault : TailAndVaultStep → TailHeld → VaultTold → Outcome → Type 0
+LeavesTailAndVault did tail vault outcome =
+    did ≡ record { tail = tail.numbers; vault = numbers_of vault; outcome = outcome }
+
+-- the vault goes on as before: it hasn't been halted, and no count fell
+pub record Goes (s u : VaultTold) : Type 0 where
+  pub halted : u.halted ≡ s.halted
+  pub started : u.started ≡ s.started
+  pub counts : NoneFell (counts_of s) (counts_of u)
+
+-- and its numbers are as before
+pub record Keeps (s u : VaultTold) : Type 0 where
+  pub numbers : numbers_of u ≡ numbers_of s
+  pub goes : Goes s u
+
+-- no name was put to that wasn't before, but those of sinks
+abbrev pub PutsToSinksAlone : PlanText → VaultTold → VaultTold → Type 0
+PutsToSinksAlone plan s u =
+    (name : List ℕ) → ((k : ℕ) → sink_file plan k ≢ Some name) → u.outputs.put_to name ≡ s.outputs.put_to name
+
+-- the vault is called just where that is due: else it is as before, and where it was due and the act was made, the
+-- vault hadn't been halted
+pub record AsksVault (due : Bool) (s : VaultTold) (made : Bool) (u : VaultTold) : Type 0 where
+  pub untouched : due ≡ false → u ≡ s
+  pub going : due ≡ true → made ≡ true → s.halted ≡ None

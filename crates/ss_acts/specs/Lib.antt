@@ -1,0 +1,9 @@
+pub mod Parts
+pub mod Leaves
+pub mod Readings
+pub mod Faults
+pub mod Calls
+pub mod Facts
+pub mod Told
+pub mod Asked
+pub mod Coming
