@@ -1,0 +1,13 @@
+pub mod Parts
+pub mod Made
+pub mod Causes
+pub mod Steps
+pub mod Acts
+pub mod Picking
+pub mod ReadActs
+pub mod Places
+pub mod Wanting
+pub mod FlushActs
+pub mod PlayRuns
+pub mod StartParts
+pub mod StartVertices

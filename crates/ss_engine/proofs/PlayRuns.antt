@@ -1,0 +1,124 @@
+-- A list of acts, and one act more.
+use Rattle.std.proofs.Common.{◌≡◌, ◌∙◌, ℕ, ◌+◌, ◌<◌, List, [], ◌∷◌, ◌++◌, length, get_or, take, drop, map, refl, sym, ap, subst, arith, append_assoc}
+use Rattle.std.proofs.lemmas.List.{append-nil, drop_more, map-append, take-append-drop, take_more}
+use Rattle.ss_acts.specs.Leaves.{Goes, PutsToSinksAlone}
+use Rattle.ss_acts.specs.declared.fault.EngineFault.{EngineFault}
+use Rattle.ss_fail.specs.declared.act.Act.{Act}
+use Rattle.ss_fail.specs.declared.outcome.Outcome.{Outcome}
+use Rattle.ss_frames.specs.Plans.{plan_numbers}
+use Rattle.ss_plan.specs.Plan.{PlanText}
+use Rattle.ss_state.specs.Numbers.{JobNumbers}
+use Rattle.ss_state.specs.State.{State}
+use Rattle.ss_state.specs.Step.{Made, Ran, Run, Step, run, step}
+use Rattle.ss_vault.specs.Told.{VaultTold}
+use Rattle.ss_engine.specs.Applies.{Makes}
+use Rattle.ss_engine.specs.Joint.{Joint}
+use Rattle.ss_engine.specs.Plays.{PlaysAll, PlaysUpTo, Runs, acts_of}
+use Rattle.ss_engine.specs.PlaysOne.{MakesOne, StopsAtOne}
+use Rattle.ss_engine.specs.Told.{PlantTold, state_of}
+
+abbrev outcomes_of : List Made → List Outcome
+outcomes_of made = map (λ (m : Made). m.outcome) made
+
+abbrev made_so : Act → Outcome → Made
+made_so a outcome = record { act = a; outcome = outcome }
+
+-- what one act more makes of what was run
+abbrev with_one : JobNumbers → Act → Ran → Ran
+with_one job a ran =
+    let did = step job ran.state a in
+    record { state = did.state; outcomes = ran.outcomes ++ did.outcome ∷ [] }
+
+abbrev first_of : Outcome → Ran → Ran
+first_of o ran = record { state = ran.state; outcomes = o ∷ ran.outcomes }
+
+run_more : (job : JobNumbers) (s : State) (acts : List Act) (a : Act) → run job s (acts ++ a ∷ []) ≡ with_one job a (run job s acts)
+run_more job s [] a = refl
+run_more job s (b ∷ acts) a = ap (first_of (step job s b).outcome) (run_more job (step job s b).state acts a)
+
+abbrev ran_so : State → List Outcome → Ran
+ran_so s outcomes = record { state = s; outcomes = outcomes }
+
+abbrev did_so : List Outcome → Step → Ran
+did_so outcomes did = record { state = did.state; outcomes = outcomes ++ did.outcome ∷ [] }
+
+run_made : (job : JobNumbers) (s mid end : State) (made : List Made) (a : Act) (o : Outcome) → Run job s made mid
+    → step job mid a ≡ record { state = end; outcome = o } → Run job s (made ++ made_so a o ∷ []) end
+run_made job s mid end made a o ran did =
+    ap (run job s) (map-append (λ (m : Made). m.act) made (made_so a o ∷ []))
+    ∙ run_more job s (acts_of made) a
+    ∙ ap (with_one job a) ran
+    ∙ ap (did_so (outcomes_of made)) did
+    ∙ ap (ran_so end) (sym (map-append (λ (m : Made). m.outcome) made (made_so a o ∷ [])))
+
+goes_same : (s : VaultTold) → Goes s s
+goes_same s = record { halted = refl; started = refl; counts = record { faults = omega arith; output_faults = omega arith; shorts = omega arith } }
+
+goes_on : (s t u : VaultTold) → Goes s t → Goes t u → Goes s u
+goes_on s t u first second = record {
+  halted = second.halted ∙ first.halted;
+  started = second.started ∙ first.started;
+  counts = record { faults = omega arith; output_faults = omega arith; shorts = omega arith };
+}
+
+puts_on : (plan : PlanText) (s t u : VaultTold) → PutsToSinksAlone plan s t → PutsToSinksAlone plan t u → PutsToSinksAlone plan s u
+puts_on plan s t u first second = λ name h. second name h ∙ first name h
+
+runs_none : (p : PlantTold) → Runs p [] p
+runs_none p = record { plan = refl; run = refl; goes = goes_same p.vault; outputs = λ name h. refl }
+
+runs_more : (p q r : PlantTold) (made : List Made) (a : Act) (o : Outcome) → Runs p made q → Makes q a r o → PutsToSinksAlone q.plan q.vault r.vault
+    → Runs p (made ++ made_so a o ∷ []) r
+runs_more p q r made a o runs makes puts = record {
+  plan = makes.plan ∙ runs.plan;
+  run = run_made (plan_numbers p.plan) (state_of p) (state_of q) (state_of r) made a o runs.run
+      (subst (λ (plan : PlanText). step (plan_numbers plan) (state_of q) a ≡ record { state = state_of r; outcome = o }) runs.plan makes.step);
+  goes = goes_on p.vault q.vault r.vault runs.goes makes.goes;
+  outputs = puts_on p.plan p.vault q.vault r.vault runs.outputs
+      (subst (λ (plan : PlanText). PutsToSinksAlone plan q.vault r.vault) runs.plan puts);
+}
+
+pub plays_none : (p : PlantTold) (before : List Made) → PlaysAll p [] before p before
+plays_none p before = record { made = []; are = refl; trace = sym (append-nil before); runs = runs_none p }
+
+-- one more act was made
+pub plays_more : (p q r : PlantTold) (acts : List Act) (a : Act) (before mid after : List Made) → PlaysAll p acts before q mid → MakesOne q a mid r after
+    → PlaysAll p (acts ++ a ∷ []) before r after
+plays_more p q r acts a before mid after plays one = record {
+  made = plays.made ++ made_so a one.outcome ∷ [];
+  are = map-append (λ (m : Made). m.act) plays.made (made_so a one.outcome ∷ []) ∙ ap (λ (xs : List Act). xs ++ a ∷ []) plays.are;
+  trace = one.trace ∙ ap (λ (xs : List Made). xs ++ made_so a one.outcome ∷ []) plays.trace
+      ∙ append_assoc before plays.made (made_so a one.outcome ∷ []);
+  runs = runs_more p q r plays.made a one.outcome plays.runs one.makes one.outputs;
+}
+
+-- one more act met a fault
+pub plays_up_to : (p q r : PlantTold) (acts rest : List Act) (a : Act) (before mid after : List Made) (f : EngineFault) → PlaysAll p acts before q mid
+    → Joint q → StopsAtOne q a mid f r after → PlaysUpTo p (acts ++ a ∷ rest) before f r after
+plays_up_to p q r acts rest a before mid after f plays joint one = record {
+  made = plays.made;
+  next = a;
+  rest = rest;
+  are = ap (λ (xs : List Act). xs ++ a ∷ rest) (sym plays.are);
+  trace = one.trace ∙ plays.trace;
+  between = q;
+  runs = plays.runs;
+  joint = joint;
+  stops = one.stops;
+  outputs = puts_on p.plan p.vault q.vault r.vault plays.runs.outputs
+      (subst (λ (plan : PlanText). PutsToSinksAlone plan q.vault r.vault) plays.runs.plan one.outputs);
+}
+
+-- the same at a place of a list of acts
+pub plays_to : (p q r : PlantTold) (acts : List Act) (i : ℕ) (d : Act) (before mid after : List Made) → i < length acts
+    → PlaysAll p (take i acts) before q mid → MakesOne q (get_or acts i d) mid r after → PlaysAll p (take (i + 1) acts) before r after
+plays_to p q r acts i d before mid after h plays one =
+    subst (λ (xs : List Act). PlaysAll p xs before r after) (sym (take_more acts i d h))
+    (plays_more p q r (take i acts) (get_or acts i d) before mid after plays one)
+
+pub plays_until : (p q r : PlantTold) (acts : List Act) (i : ℕ) (d : Act) (before mid after : List Made) (f : EngineFault) → i < length acts
+    → PlaysAll p (take i acts) before q mid → Joint q → StopsAtOne q (get_or acts i d) mid f r after → PlaysUpTo p acts before f r after
+plays_until p q r acts i d before mid after f h plays joint one =
+    subst (λ (xs : List Act). PlaysUpTo p xs before f r after)
+    (ap (λ (xs : List Act). take i acts ++ xs) (sym (drop_more acts i d h)) ∙ take-append-drop i acts)
+    (plays_up_to p q r (take i acts) (drop (i + 1) acts) (get_or acts i d) before mid after f plays joint one)

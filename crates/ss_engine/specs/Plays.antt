@@ -1,0 +1,56 @@
+-- What a list of acts makes of a running job, one behind the other.
+use Rattle.std.specs.Prelude.{◌≡◌, ◌⊎◌, List, ◌∷◌, ◌++◌, map, Result, Ok, Err}
+use Rattle.ss_acts.specs.Leaves.{Goes, PutsToSinksAlone}
+use Rattle.ss_acts.specs.declared.fault.EngineFault.{EngineFault}
+use Rattle.ss_acts.specs.declared.fault.EngineFault.TheVariants as fault
+use Rattle.ss_fail.specs.declared.act.Act.{Act}
+use Rattle.ss_fail.specs.declared.outcome.Outcome.{Outcome}
+use Rattle.ss_frames.specs.Plans.{plan_numbers}
+use Rattle.ss_state.specs.Step.{Made, Run}
+use Rattle.ss_engine.specs.Applies.{Meets}
+use Rattle.ss_engine.specs.Joint.{Joint}
+use Rattle.ss_engine.specs.Told.{PlantTold, state_of}
+
+-- the pairs of a trace, each an act and what came of it
+abbrev pub made_of : List (Act × Outcome) → List Made
+made_of pairs = map (λ pair. record { act = pair.0; outcome = pair.1 }) pairs
+
+abbrev pub acts_of : List Made → List Act
+acts_of made = map (λ m. m.act) made
+
+-- these acts with these outcomes led from one moment of a job to another, and halted nothing
+pub record Runs (p : PlantTold) (made : List Made) (q : PlantTold) : Type 0 where
+  pub plan : q.plan ≡ p.plan
+  pub run : Run (plan_numbers p.plan) (state_of p) made (state_of q)
+  pub goes : Goes p.vault q.vault
+  pub outputs : PutsToSinksAlone p.plan p.vault q.vault
+
+-- all of the acts were made, and the trace has each with its outcome
+pub record PlaysAll (p : PlantTold) (acts : List Act) (before : List Made) (q : PlantTold) (after : List Made) : Type 0
+  where
+    pub made : List Made
+    pub are : acts_of made ≡ acts
+    pub trace : after ≡ before ++ made
+    pub runs : Runs p made q
+
+-- an act met a fault, or there was no memory for it in the trace, and it wasn't begun
+abbrev pub StopsAt : PlantTold → Act → PlantTold → EngineFault → Type 0
+StopsAt p a q f = Meets p a q f ⊎ ((f ≡ fault.Memory) × (q ≡ p))
+
+-- the acts before one were made, and the trace has each with its outcome; at this one the list stopped
+pub record PlaysUpTo (p : PlantTold) (acts : List Act) (before : List Made) (f : EngineFault) (q : PlantTold)
+    (after : List Made) : Type 0 where
+  pub made : List Made
+  pub next : Act
+  pub rest : List Act
+  pub are : acts ≡ acts_of made ++ next ∷ rest
+  pub trace : after ≡ before ++ made
+  pub between : PlantTold
+  pub runs : Runs p made between
+  pub joint : Joint between
+  pub stops : StopsAt between next q f
+  pub outputs : PutsToSinksAlone p.plan p.vault q.vault
+
+abbrev pub Plays : PlantTold → List Act → List Made → Result (Unit {0}) EngineFault → PlantTold → List Made → Type 0
+Plays p acts before (Ok _) q after = PlaysAll p acts before q after
+Plays p acts before (Err f) q after = PlaysUpTo p acts before f q after

@@ -1,0 +1,17 @@
+//! The tests of running jobs, by acts. They stand apart from what they test, so that no library is proved twice.
+#![tactic(auto)]
+
+#[cfg(test)]
+mod faults;
+#[cfg(test)]
+mod jobs;
+#[cfg(test)]
+mod lost;
+#[cfg(test)]
+mod planned;
+#[cfg(test)]
+mod races;
+#[cfg(test)]
+mod rows;
+#[cfg(test)]
+mod running;
