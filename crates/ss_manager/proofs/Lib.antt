@@ -1,0 +1,2 @@
+mod Policies
+mod Rules
