@@ -1,0 +1,16 @@
+mod Sums
+mod Greatest
+mod Counting
+mod Parts
+mod Frames
+mod Takes
+mod Whole
+mod Flushes
+mod Passes
+mod Going
+mod Writing
+mod Snapping
+mod Loading
+mod Reading
+mod Ruled
+mod Firing

@@ -1,0 +1,4 @@
+pub mod Measure
+pub mod Whole
+pub mod Laws
+pub mod Examples
