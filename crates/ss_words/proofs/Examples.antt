@@ -1,28 +1,27 @@
 -- Words worked out: the commands that they say.
 use Rattle.std.proofs.Common.{◌≡◌, [], ◌∷◌, Some, None, codes, refl, replicate}
 use Rattle.ss_words.proofs.OnLiterals.{words_on_literals}
-use Rattle.ss_words.specs.Words.{command_of}
-use Rattle.ss_words.specs.declared.words.Action.TheVariants.{Check, Run}
+use Rattle.ss_words.specs.Words.{check_job, command_of, play_job, run_job}
 
-run-a-job : command_of (codes "run" ∷ codes "job.toml" ∷ []) ≡ Some (record { action = Run; job = codes "job.toml" })
+run-a-job : command_of (codes "run" ∷ codes "job.toml" ∷ []) ≡ Some (run_job (codes "job.toml"))
 unfolding words_on_literals
 run-a-job = refl
 
-check-a-job : command_of (codes "check" ∷ codes "job.toml" ∷ []) ≡ Some (record { action = Check; job = codes "job.toml" })
+check-a-job : command_of (codes "check" ∷ codes "job.toml" ∷ []) ≡ Some (check_job (codes "job.toml"))
 unfolding words_on_literals
 check-a-job = refl
 
 -- `--` ends the options, and is no subject itself
-behind-two-hyphens : command_of (codes "run" ∷ codes "--" ∷ codes "job.toml" ∷ []) ≡ Some (record { action = Run; job = codes "job.toml" })
+behind-two-hyphens : command_of (codes "run" ∷ codes "--" ∷ codes "job.toml" ∷ []) ≡ Some (run_job (codes "job.toml"))
 unfolding words_on_literals
 behind-two-hyphens = refl
 
 -- before the action too, and behind the subject
-two-hyphens-first : command_of (codes "--" ∷ codes "run" ∷ codes "job.toml" ∷ []) ≡ Some (record { action = Run; job = codes "job.toml" })
+two-hyphens-first : command_of (codes "--" ∷ codes "run" ∷ codes "job.toml" ∷ []) ≡ Some (run_job (codes "job.toml"))
 unfolding words_on_literals
 two-hyphens-first = refl
 
-two-hyphens-last : command_of (codes "run" ∷ codes "job.toml" ∷ codes "--" ∷ []) ≡ Some (record { action = Run; job = codes "job.toml" })
+two-hyphens-last : command_of (codes "run" ∷ codes "job.toml" ∷ codes "--" ∷ []) ≡ Some (run_job (codes "job.toml"))
 unfolding words_on_literals
 two-hyphens-last = refl
 
@@ -31,16 +30,16 @@ unfolding words_on_literals
 no-subject-behind-two = refl
 
 -- behind it a word may begin with a hyphen
-hyphen-behind-two : command_of (codes "run" ∷ codes "--" ∷ codes "-x" ∷ []) ≡ Some (record { action = Run; job = codes "-x" })
+hyphen-behind-two : command_of (codes "run" ∷ codes "--" ∷ codes "-x" ∷ []) ≡ Some (run_job (codes "-x"))
 unfolding words_on_literals
 hyphen-behind-two = refl
 
 -- a hyphen alone names a file
-hyphen-alone : command_of (codes "run" ∷ codes "-" ∷ []) ≡ Some (record { action = Run; job = codes "-" })
+hyphen-alone : command_of (codes "run" ∷ codes "-" ∷ []) ≡ Some (run_job (codes "-"))
 unfolding words_on_literals
 hyphen-alone = refl
 
-subject-of-200-bytes : command_of (codes "run" ∷ replicate 200 97 ∷ []) ≡ Some (record { action = Run; job = replicate 200 97 })
+subject-of-200-bytes : command_of (codes "run" ∷ replicate 200 97 ∷ []) ≡ Some (run_job (replicate 200 97))
 unfolding words_on_literals
 subject-of-200-bytes = refl
 
@@ -96,3 +95,108 @@ unknown-option = refl
 unknown-option-with-a-value : command_of (codes "run" ∷ codes "job.toml" ∷ codes "--trace=t" ∷ []) ≡ None
 unfolding words_on_literals
 unknown-option-with-a-value = refl
+
+-- a schedule stands behind the option, or in the same word behind `=`, and the option in any place
+play-a-job : command_of (codes "play" ∷ codes "job.toml" ∷ codes "--schedule" ∷ codes "s.txt" ∷ [])
+    ≡ Some (play_job (codes "job.toml") (codes "s.txt"))
+unfolding words_on_literals
+play-a-job = refl
+
+schedule-in-one-word : command_of (codes "play" ∷ codes "job.toml" ∷ codes "--schedule=s.txt" ∷ [])
+    ≡ Some (play_job (codes "job.toml") (codes "s.txt"))
+unfolding words_on_literals
+schedule-in-one-word = refl
+
+schedule-first : command_of (codes "--schedule" ∷ codes "s.txt" ∷ codes "play" ∷ codes "job.toml" ∷ [])
+    ≡ Some (play_job (codes "job.toml") (codes "s.txt"))
+unfolding words_on_literals
+schedule-first = refl
+
+schedule-between : command_of (codes "play" ∷ codes "--schedule=s.txt" ∷ codes "--" ∷ codes "-x" ∷ [])
+    ≡ Some (play_job (codes "-x") (codes "s.txt"))
+unfolding words_on_literals
+schedule-between = refl
+
+-- a value begins behind the first `=`
+schedule-with-two-signs : command_of (codes "play" ∷ codes "job.toml" ∷ codes "--schedule=a=b" ∷ [])
+    ≡ Some (play_job (codes "job.toml") (codes "a=b"))
+unfolding words_on_literals
+schedule-with-two-signs = refl
+
+schedule-of-a-hyphen : command_of (codes "play" ∷ codes "job.toml" ∷ codes "--schedule" ∷ codes "-" ∷ [])
+    ≡ Some (play_job (codes "job.toml") (codes "-"))
+unfolding words_on_literals
+schedule-of-a-hyphen = refl
+
+-- a word that begins with a hyphen and has more bytes is no value, but it may stand behind `=`
+schedule-like-an-option : command_of (codes "play" ∷ codes "job.toml" ∷ codes "--schedule" ∷ codes "-x" ∷ []) ≡ None
+unfolding words_on_literals
+schedule-like-an-option = refl
+
+schedule-of-two-hyphens : command_of (codes "play" ∷ codes "job.toml" ∷ codes "--schedule" ∷ codes "--" ∷ []) ≡ None
+unfolding words_on_literals
+schedule-of-two-hyphens = refl
+
+hyphen-behind-the-sign : command_of (codes "play" ∷ codes "job.toml" ∷ codes "--schedule=-x" ∷ [])
+    ≡ Some (play_job (codes "job.toml") (codes "-x"))
+unfolding words_on_literals
+hyphen-behind-the-sign = refl
+
+schedule-of-200-bytes : command_of (codes "play" ∷ codes "job.toml" ∷ codes "--schedule" ∷ replicate 200 97 ∷ [])
+    ≡ Some (play_job (codes "job.toml") (replicate 200 97))
+unfolding words_on_literals
+schedule-of-200-bytes = refl
+
+schedule-of-201-bytes : command_of (codes "play" ∷ codes "job.toml" ∷ codes "--schedule" ∷ replicate 201 97 ∷ []) ≡ None
+unfolding words_on_literals
+schedule-of-201-bytes = refl
+
+empty-schedule : command_of (codes "play" ∷ codes "job.toml" ∷ codes "--schedule=" ∷ []) ≡ None
+unfolding words_on_literals
+empty-schedule = refl
+
+empty-schedule-in-a-word : command_of (codes "play" ∷ codes "job.toml" ∷ codes "--schedule" ∷ [] ∷ []) ≡ None
+unfolding words_on_literals
+empty-schedule-in-a-word = refl
+
+no-schedule : command_of (codes "play" ∷ codes "job.toml" ∷ []) ≡ None
+unfolding words_on_literals
+no-schedule = refl
+
+schedule-without-a-value : command_of (codes "play" ∷ codes "job.toml" ∷ codes "--schedule" ∷ []) ≡ None
+unfolding words_on_literals
+schedule-without-a-value = refl
+
+two-schedules : command_of (codes "play" ∷ codes "job.toml" ∷ codes "--schedule=s" ∷ codes "--schedule=s" ∷ []) ≡ None
+unfolding words_on_literals
+two-schedules = refl
+
+schedule-cut-short : command_of (codes "play" ∷ codes "job.toml" ∷ codes "--sched" ∷ codes "s.txt" ∷ []) ≡ None
+unfolding words_on_literals
+schedule-cut-short = refl
+
+short-schedule : command_of (codes "play" ∷ codes "job.toml" ∷ codes "-s" ∷ codes "s.txt" ∷ []) ≡ None
+unfolding words_on_literals
+short-schedule = refl
+
+-- behind the word that ends the options there is no option
+schedule-behind-two-hyphens : command_of (codes "play" ∷ codes "job.toml" ∷ codes "--" ∷ codes "--schedule=s.txt" ∷ []) ≡ None
+unfolding words_on_literals
+schedule-behind-two-hyphens = refl
+
+-- a schedule is refused with every other action, also an empty one
+run-with-a-schedule : command_of (codes "run" ∷ codes "job.toml" ∷ codes "--schedule" ∷ codes "s.txt" ∷ []) ≡ None
+unfolding words_on_literals
+run-with-a-schedule = refl
+
+run-with-an-empty-schedule : command_of (codes "run" ∷ codes "job.toml" ∷ codes "--schedule=" ∷ []) ≡ None
+unfolding words_on_literals
+run-with-an-empty-schedule = refl
+
+check-with-a-schedule : command_of (codes "--schedule=s.txt" ∷ codes "check" ∷ codes "job.toml" ∷ []) ≡ None
+unfolding words_on_literals
+check-with-a-schedule = refl
+
+plain-with-a-schedule : command_of (codes "plain" ∷ codes "--schedule=s.txt" ∷ codes "job.toml" ∷ []) ≡ None
+unfolding words_on_literals
+plain-with-a-schedule = refl

@@ -3,4 +3,4 @@
 
 mod words;
 
-pub use words::{Action, Command, WordsFault, command_of};
+pub use words::{Command, WordsFault, command_of};

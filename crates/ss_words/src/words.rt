@@ -13,26 +13,51 @@ const ACTION: &str = "ACTION";
 
 const SUBJECT: &str = "SUBJECT";
 
+const SCHEDULE: &str = "schedule";
+
 const MOST_FILE_BYTES: usize = 200;
 
-/// What a command does with its job.
+/// A command, as the words after the program's name give it. Names of files have 1 to 200 bytes.
 #[derive(Clone, Copy, Debug, PartialEq, Eq)]
-pub enum Action {
+pub enum Command<'a> {
     /// Shows the job, and does none of its work.
-    Check,
+    Check {
+        /// The job file.
+        job: &'a str,
+    },
     /// Writes what each sink takes, computed as a whole.
-    Plain,
+    Plain {
+        /// The job file.
+        job: &'a str,
+    },
     /// Does the job's work.
-    Run,
+    Run {
+        /// The job file.
+        job: &'a str,
+    },
+    /// Makes the acts of a schedule on the job, one after the other.
+    Play {
+        /// The job file.
+        job: &'a str,
+        /// The schedule's file.
+        schedule: &'a str,
+    },
 }
 
-/// A command, as the words after the program's name give it.
-#[derive(Clone, Copy, Debug)]
-pub struct Command<'a> {
-    /// What is done.
-    pub action: Action,
-    /// The name of the job file, of 1 to 200 bytes.
-    pub job: &'a str,
+impl<'a> Command<'a> {
+    ghost use Rattle.ss_words.specs.Words.{job_of};
+
+    /// The job file.
+    pub fn job(&self) -> &'a str
+        ensures { result.now ≡ job_of (command_text self.now) }
+    {
+        match self {
+            Command::Check { job } => job,
+            Command::Plain { job } => job,
+            Command::Run { job } => job,
+            Command::Play { job, .. } => job,
+        }
+    }
 }
 
 /// Why words give no command.
@@ -46,8 +71,10 @@ pub enum WordsFault {
 
 /// Reads the words after the program's name.
 ///
-/// A command is an action, `check`, `plain` or `run`, and then the name of a job file, of 1 to 200 bytes. A word that
-/// begins with `-` and has more bytes names a file only behind the word `--`.
+/// A command is an action, `check`, `plain`, `run` or `play`, and then the name of a job file. With `play`, and with no
+/// other action, the option `--schedule` stands once, in any place before the word `--`, and names the schedule's
+/// file. Names have 1 to 200 bytes. A word that begins with `-` and has more bytes names a job file only behind the
+/// word `--`, and a schedule only as in `--schedule=-x`.
 #[tactic(auto, unfolding(crate::specs::Words::command_of))]
 pub fn command_of(alloc: Global, words: &[String]) -> Result<Command<'_>, WordsFault>
     ensures { AnswersReading command_text result (spec.command_of (map string_bytes words.now)) }
@@ -76,16 +103,18 @@ fn matches_of(alloc: Global, words: &[String]) -> Result<ArgMatches<'_>, WordsFa
     }
 }
 
-/// The command line: an action and a subject. The program's name is none of its words.
+/// The command line: an action, a subject and an option. The program's name is none of its words.
 fn command_line<'a>(alloc: Global) -> Result<clap::Command<'a>, AllocError>
     ensures { IfOk result (λ command_line. app_of command_line ≡ spec.command_line) }
 {
     let action = required_word(alloc, ACTION);
     let subject = required_word(alloc, SUBJECT);
+    let schedule = option_with_value(alloc, SCHEDULE);
     clap::Command::new(alloc, PROGRAM)
         .no_binary_name(true)
         .arg(action)?
-        .arg(subject)
+        .arg(subject)?
+        .arg(schedule)
 }
 
 /// A word that has to be given.
@@ -94,6 +123,14 @@ fn required_word<'a>(alloc: Global, name: &'a str) -> Arg<'a>
     ensures local { result.global ≡ false }
 {
     Arg::new(alloc, name).required(true)
+}
+
+/// An option with one value, which may be given once.
+fn option_with_value<'a>(alloc: Global, name: &'a str) -> Arg<'a>
+    ensures rule { rule_of result ≡ spec.option_with_value name.entry.now }
+    ensures local { result.global ≡ false }
+{
+    Arg::new(alloc, name).long(name)
 }
 
 /// Why words that `clap` didn't take give no command.
@@ -110,12 +147,14 @@ fn fault_of(error: &Error) -> WordsFault
 fn command_in<'a>(matches: &ArgMatches<'a>) -> Option<Command<'a>>
     ensures { option_map command_text result ≡ spec.command_in (rows_of (found_of matches.now)) }
 {
-    let action = action_of(word_at(matches, ACTION)?)?;
+    let action = word_at(matches, ACTION)?;
     let job = word_at(matches, SUBJECT)?;
-    if is_file_word(job) {
-        Some(Command { action, job })
-    } else {
-        None
+    if !is_file_word(job) {
+        return None;
+    }
+    match word_at(matches, SCHEDULE) {
+        Some(schedule) => with_schedule(action, job, schedule),
+        None => with_job(action, job),
     }
 }
 
@@ -126,15 +165,26 @@ fn word_at<'a>(matches: &ArgMatches<'a>, name: &str) -> Option<&'a str>
     matches.get_str(name)
 }
 
-/// The action that a word names.
-fn action_of(word: &str) -> Option<Action>
-    ensures { result ≡ spec.action_of word.now }
+/// The command of an action with a job file alone.
+fn with_job<'a>(action: &str, job: &'a str) -> Option<Command<'a>>
+    ensures { option_map command_text result ≡ spec.with_job action.now job.entry.now }
 {
-    match word {
-        "check" => Some(Action::Check),
-        "plain" => Some(Action::Plain),
-        "run" => Some(Action::Run),
+    match action {
+        "check" => Some(Command::Check { job }),
+        "plain" => Some(Command::Plain { job }),
+        "run" => Some(Command::Run { job }),
         _ => None,
+    }
+}
+
+/// The command of an action with a job file and a schedule.
+fn with_schedule<'a>(action: &str, job: &'a str, schedule: &'a str) -> Option<Command<'a>>
+    ensures { option_map command_text result ≡ spec.with_schedule action.now job.entry.now schedule.entry.now }
+{
+    if action == "play" && is_file_word(schedule) {
+        Some(Command::Play { job, schedule })
+    } else {
+        None
     }
 }
 

@@ -1,14 +1,21 @@
 -- How a command ends, from how its steps end.
 use Rattle.std.proofs.Common.{◌≡◌, ℕ, ◌≤◌, ◌⊎◌, inl, inr, List, [], Some, None, refl, sym, ap, ◌∙◌, subst, arith}
+use Rattle.ss_fail.specs.declared.act.Act.{Act}
+use Rattle.ss_outside.specs.Depot.{DepotTold}
 use Rattle.ss_outside.specs.Faults.{Rose}
 use Rattle.ss_outside.specs.Told.{InputsTold, OutputsTold, FileTold, KeepsInputs, FailsAt, MayGive, changed_at, with_failure, missed_after}
-use Rattle.streamscope.specs.Ends.{Seen, MayHave, AreTold, StopsAt, CannotRead, WantsMemory, StopsEarly, StopsLate, Stops, IsDone, TellsLine, IsRefused, IsExcused, IsPutFault, EndsBy, Ends}
-use Rattle.streamscope.specs.Order.{Asked, Reading, Step, Value, Gives, Finds, Order, first, order_of, put, ComesTo, ComesToStep}
-use Rattle.streamscope.specs.Output.{Output}
-use Rattle.streamscope.specs.Puts.{Went}
+use Rattle.ss_play.specs.Playing.{IsCauseOf}
+use Rattle.ss_play.specs.declared.fault.PlayFault.{PlayFault}
+use Rattle.ss_play.specs.declared.fault.PlayFault.TheVariants as fault
+use Rattle.ss_plan.specs.Plan.{PlanText}
+use Rattle.streamscope.specs.Ends.{MayHave, AreTold, StopsAt, CannotRead, WantsMemory, StopsEarly, StopsLate, Stops, IsDone, TellsLine, IsRefused, IsExcused, IsPutFault, MayStop, DoesAll, StopsDoing, StopsPutting, EndsBy, Ends}
+use Rattle.streamscope.specs.Order.{Asked, Reading, Step, Value, Gives, Finds, Work, puts, acts, Order, first, order_of, last, ComesTo, ComesToStep}
+use Rattle.streamscope.specs.Playing.{Worked, StopsInActs, StopsInReport, devices, stop_told}
+use Rattle.streamscope.specs.Puts.{Put, Went, StopsInPuts}
 use Rattle.streamscope.specs.Refusal.{Refusal}
+use Rattle.streamscope.specs.Seen.{Seen}
 use Rattle.streamscope.proofs.Puts.{rose-earlier, rose-later, Went-same}
-use Rattle.streamscope.proofs.Ways.{OneReading, told_agrees, refused_or_comes, refused_alike, done_or_unread}
+use Rattle.streamscope.proofs.Ways.{OneReading, told_agrees, refused_or_comes, refused_alike, done_or_unread, one_work}
 
 -- ---- inputs at a later moment
 
@@ -29,11 +36,11 @@ fails-then a b c file h k = record {
 abbrev pub may : (List ℕ → FileTold) → Reading
 may files file bytes = MayGive (files file) bytes
 
-pub comes-earlier : (a b : InputsTold) (output : Output) (order : Order) → KeepsInputs a b → ComesTo (MayHave b) output order → ComesTo (MayHave a) output order
-comes-earlier a b output order h = subst (λ (files : List ℕ → FileTold). ComesTo (may files) output order) h.file
+pub comes-earlier : (a b : InputsTold) (work : Work) (order : Order) → KeepsInputs a b → ComesTo (MayHave b) work order → ComesTo (MayHave a) work order
+comes-earlier a b work order h = subst (λ (files : List ℕ → FileTold). ComesTo (may files) work order) h.file
 
 pub step-there : (R : Reading) (Here There : Step → Type 0) (order : Order) → ((step : Step) → Here step → There step) → ComesToStep R Here order → ComesToStep R There order
-step-there R Here There (put o) h k = k
+step-there R Here There (last o) h k = k
 step-there R Here There (first step next) h (inl here) = inl (h step here)
 step-there R Here There (first step next) h (inr (value, gives, later)) = inr (value, gives, step-there R Here There (next value) h later)
 
@@ -53,14 +60,32 @@ step-earlier a b c refusal order h k =
 abbrev pub at_inputs : InputsTold → Seen → Seen
 at_inputs inputs seen = record seen { inputs = inputs }
 
+-- the same moment of a job, whatever inputs are told beside it
+abbrev pub worked-earlier : (plan : PlanText) (made : List Act) (before : Seen) (read : InputsTold) → Worked plan made (at_inputs read before) → Worked plan made before
+worked-earlier plan made before read k = record { made = k.made; state = k.state; left = k.left; played = k.played }
+
+pub does-earlier : (work : Work) (before after : Seen) (read : InputsTold) → KeepsInputs before.inputs read → DoesAll work (at_inputs read before) after → DoesAll work before after
+does-earlier (puts output) before after read h k = record { whole = k.whole; store = k.store; inputs = keeps-then before.inputs read after.inputs h k.inputs }
+does-earlier (acts plan made) before after read h k = record {
+  worked = worked-earlier plan made before read k.worked;
+  report = k.report;
+  store = k.store;
+  read = k.read;
+  kept = keeps-then before.inputs read k.read h k.kept;
+  released = k.released;
+}
+
+pub stops_doing-earlier : (work : Work) (before after : Seen) (read : InputsTold) (refusal : Refusal) → StopsDoing work (at_inputs read before) after refusal → StopsDoing work before after refusal
+stops_doing-earlier (puts output) before after read refusal k = record { cause = k.cause; store = k.store }
+stops_doing-earlier (acts plan made) before after read refusal (inl k) = inl (record { stop = k.stop; stops = k.stops; told = k.told })
+stops_doing-earlier (acts plan made) before after read refusal (inr k) =
+    inr (record { worked = worked-earlier plan made before read k.worked; cause = k.cause; store = k.store })
+
 pub done-earlier : (order : Order) (before after : Seen) (read : InputsTold) → KeepsInputs before.inputs read → IsDone order (at_inputs read before) after → IsDone order before after
 done-earlier order before after read h k = record {
-  output = k.output;
-  puts = k.puts;
-  comes = comes-earlier before.inputs read k.output order h k.comes;
-  expected = k.expected;
-  whole = k.whole;
-  inputs = keeps-then before.inputs read after.inputs h k.inputs;
+  work = k.work;
+  comes = comes-earlier before.inputs read k.work order h k.comes;
+  whole = does-earlier k.work before after read h k.whole;
 }
 
 pub early-cause : (order : Order) (before after : Seen) (read : InputsTold) (refusal : Refusal) → KeepsInputs before.inputs read →
@@ -72,13 +97,11 @@ early-cause order before after read refusal h (inr (is, kept)) = inr (is, keeps-
 pub stops-earlier : (order : Order) (before after : Seen) (read : InputsTold) (refusal : Refusal) → KeepsInputs before.inputs read →
     Stops order (at_inputs read before) after refusal → Stops order before after refusal
 stops-earlier order before after read refusal h (inl early) =
-    inl (record { cause = early-cause order before after read refusal h early.cause; nothing = early.nothing })
+    inl (record { cause = early-cause order before after read refusal h early.cause; nothing = early.nothing; store = early.store })
 stops-earlier order before after read refusal h (inr late) = inr (record {
-  output = late.output;
-  puts = late.puts;
-  comes = comes-earlier before.inputs read late.output order h late.comes;
-  expected = late.expected;
-  cause = late.cause;
+  work = late.work;
+  comes = comes-earlier before.inputs read late.work order h late.comes;
+  cause = stops_doing-earlier late.work before after read refusal late.cause;
   inputs = keeps-then before.inputs read after.inputs h late.inputs;
 })
 
@@ -93,6 +116,7 @@ ends-earlier order before after read status h (inr (refusal, refused)) = inr (
     told = refused.told;
     line = refused.line;
     inputs = refused.inputs;
+    store = refused.store;
   },
 )
 
@@ -100,14 +124,7 @@ ends-earlier order before after read status h (inr (refusal, refused)) = inr (
 
 pub done-first : (step : Step) (next : Value step → Order) (value : Value step) (before after : Seen) → Gives (MayHave before.inputs) step value →
     IsDone (next value) before after → IsDone (first step next) before after
-done-first step next value before after gives k = record {
-  output = k.output;
-  puts = k.puts;
-  comes = (value, gives, k.comes);
-  expected = k.expected;
-  whole = k.whole;
-  inputs = k.inputs;
-}
+done-first step next value before after gives k = record { work = k.work; comes = (value, gives, k.comes); whole = k.whole }
 
 pub first-cause : (step : Step) (next : Value step → Order) (value : Value step) (before after : Seen) (refusal : Refusal) → Gives (MayHave before.inputs) step value →
     ComesToStep (MayHave before.inputs) (StopsAt before.inputs after.inputs refusal) (next value) ⊎ WantsMemory before.inputs after.inputs refusal →
@@ -118,15 +135,9 @@ first-cause step next value before after refusal gives (inr wants) = inr wants
 pub stops-first : (step : Step) (next : Value step → Order) (value : Value step) (before after : Seen) (refusal : Refusal) → Gives (MayHave before.inputs) step value →
     Stops (next value) before after refusal → Stops (first step next) before after refusal
 stops-first step next value before after refusal gives (inl early) =
-    inl (record { cause = first-cause step next value before after refusal gives early.cause; nothing = early.nothing })
-stops-first step next value before after refusal gives (inr late) = inr (record {
-  output = late.output;
-  puts = late.puts;
-  comes = (value, gives, late.comes);
-  expected = late.expected;
-  cause = late.cause;
-  inputs = late.inputs;
-})
+    inl (record { cause = first-cause step next value before after refusal gives early.cause; nothing = early.nothing; store = early.store })
+stops-first step next value before after refusal gives (inr late) =
+    inr (record { work = late.work; comes = (value, gives, late.comes); cause = late.cause; inputs = late.inputs })
 
 pub ends-first : (step : Step) (next : Value step → Order) (value : Value step) (before after : Seen) (status : ℕ) → Gives (MayHave before.inputs) step value →
     EndsBy (next value) before after status → EndsBy (first step next) before after status
@@ -139,20 +150,22 @@ ends-first step next value before after status gives (inr (refusal, refused)) = 
     told = refused.told;
     line = refused.line;
     inputs = refused.inputs;
+    store = refused.store;
   },
 )
 
 -- the work stops at a step, or memory is wanting there, and nothing is put
 pub stops_here : (step : Step) (next : Value step → Order) (before : Seen) (read : InputsTold) (refusal : Refusal) →
     StopsAt before.inputs read refusal step ⊎ WantsMemory before.inputs read refusal → Stops (first step next) before (at_inputs read before) refusal
-stops_here step next before read refusal (inl stops) = inl (record { cause = inl (inl stops); nothing = Went-same before.outputs })
-stops_here step next before read refusal (inr wants) = inl (record { cause = inr wants; nothing = Went-same before.outputs })
+stops_here step next before read refusal (inl stops) = inl (record { cause = inl (inl stops); nothing = Went-same before.outputs; store = refl })
+stops_here step next before read refusal (inr wants) = inl (record { cause = inr wants; nothing = Went-same before.outputs; store = refl })
 
 -- a stop, and the line behind it
-pub refused_at : (order : Order) (before stopped : Seen) (after : OutputsTold) (status : ℕ) (refusal : Refusal) → Stops order before stopped refusal →
-    status ≡ refusal.status → TellsLine stopped.outputs after refusal.line → EndsBy order before (record stopped { outputs = after }) status
-refused_at order before stopped after status refusal stops same line =
-    inr (refusal, record { stopped = stopped; stops = stops; told = same; line = line; inputs = refl })
+pub refused_at : (order : Order) (before stopped after : Seen) (status : ℕ) (refusal : Refusal) → Stops order before stopped refusal →
+    status ≡ refusal.status → TellsLine stopped.outputs after.outputs refusal.line → after.inputs ≡ stopped.inputs → after.depot ≡ stopped.depot →
+    EndsBy order before after status
+refused_at order before stopped after status refusal stops same line inputs store =
+    inr (refusal, record { stopped = stopped; stops = stops; told = same; line = line; inputs = inputs; store = store })
 
 -- ---- exactly
 
@@ -169,7 +182,7 @@ pub refused_exactly : OneReading → (order : Order) (before after : Seen) (stat
     ComesToStep (AreTold before.inputs) (λ step. Finds (AreTold before.inputs) step refusal) order →
     IsRefused order refusal before after status ⊎ IsExcused before after status
 refused_exactly one order before after status (inl (zero, done)) refusal found =
-    absurd (refused_or_comes (AreTold before.inputs) (MayHave before.inputs) (told_agrees before.inputs) one order refusal done.output found done.comes)
+    absurd (refused_or_comes (AreTold before.inputs) (MayHave before.inputs) (told_agrees before.inputs) one order refusal done.work found done.comes)
 refused_exactly one order before after status (inr (other, refused)) refusal found = of_stop refused.stops
   where
     early : StopsEarly order before refused.stopped other → IsRefused order refusal before after status ⊎ IsExcused before after status
@@ -184,30 +197,63 @@ refused_exactly one order before after status (inr (other, refused)) refusal fou
     of_stop : Stops order before refused.stopped other → IsRefused order refusal before after status ⊎ IsExcused before after status
     of_stop (inl stop) = early stop
     of_stop (inr late) =
-        absurd (refused_or_comes (AreTold before.inputs) (MayHave before.inputs) (told_agrees before.inputs) one order refusal late.output found late.comes)
+        absurd (refused_or_comes (AreTold before.inputs) (MayHave before.inputs) (told_agrees before.inputs) one order refusal late.work found late.comes)
 
-pub done_exactly : OneReading → (order : Order) (before after : Seen) (status : ℕ) → EndsBy order before after status → (output : Output) →
-    ComesTo (AreTold before.inputs) output order → (status ≡ 0) ⊎ IsExcused before after status ⊎ IsPutFault before after status
-done_exactly one order before after status (inl (zero, done)) output comes = inl zero
-done_exactly one order before after status (inr (other, refused)) output comes = of_stop refused.stops
+-- what a stop that has a cause of its own comes to
+module _ (before stopped after : Seen) (status : ℕ) (refusal : Refusal) (told : status ≡ refusal.status) (line : TellsLine stopped.outputs after.outputs refusal.line)
+    (inputs : after.inputs ≡ stopped.inputs) (store : after.depot ≡ stopped.depot) where
+  in_puts : (work : Work) (left : OutputsTold) (all : List Put) → (IsPutFault before after status → MayStop work before after status) →
+      before.outputs.faults ≤ left.faults → StopsInPuts left stopped.outputs all refusal → IsExcused before after status ⊎ MayStop work before after status
+  in_puts work left all may h (inl (is, failed)) = inr (may (
+    told ∙ ap (λ (r : Refusal). r.status) is,
+    rose-later before.outputs.faults stopped.outputs.faults after.outputs.faults
+        (rose-earlier before.outputs.faults left.faults stopped.outputs.faults h failed.rose) line.went.faults,
+  ))
+  in_puts work left all may h (inr (is, between)) = inl (inl (told ∙ ap (λ (r : Refusal). r.status) is))
+
+  in_acts : (plan : PlanText) (made : List Act) (stop : PlayFault) → IsCauseOf plan (devices before) stop (devices stopped) → refusal ≡ stop_told plan.job stop →
+      IsExcused before after status ⊎ MayStop (acts plan made) before after status
+  in_acts plan made fault.Store rose is = inr (inr (inl (inl (
+    told ∙ ap (λ (r : Refusal). r.status) is,
+    subst (λ (d : DepotTold). Rose before.depot.faults d.faults) (sym store) rose,
+  ))))
+  in_acts plan made fault.Output rose is = inr (inl (
+    told ∙ ap (λ (r : Refusal). r.status) is,
+    rose-later before.outputs.faults stopped.outputs.faults after.outputs.faults rose line.went.faults,
+  ))
+  in_acts plan made (fault.Full v) long is = inr (inr (inr (told ∙ ap (λ (r : Refusal). r.status) is, (v, long))))
+  in_acts plan made fault.Memory u is = inl (inl (told ∙ ap (λ (r : Refusal). r.status) is))
+  in_acts plan made (fault.Damaged v n) (within, rose) is = inr (inr (inl (inr (
+    told ∙ ap (λ (r : Refusal). r.status) is,
+    subst (λ (d : DepotTold). Rose before.depot.shorts d.shorts) (sym store) rose,
+  ))))
+
+  pub in_work : (work : Work) → StopsDoing work before stopped refusal → IsExcused before after status ⊎ MayStop work before after status
+  in_work (puts output) stop = in_puts (puts output) before.outputs _ (λ h. h) (omega arith) stop.cause
+  in_work (acts plan made) (inl stop) = in_acts plan made stop.stop stop.stops.cause stop.told
+  in_work (acts plan made) (inr stop) =
+      in_puts (acts plan made) stop.worked.left.outputs _ (λ h. inl h) stop.worked.played.counts.output_faults stop.cause
+
+pub done_exactly : OneReading → (order : Order) (before after : Seen) (status : ℕ) → EndsBy order before after status → (work : Work) →
+    ComesTo (AreTold before.inputs) work order → (status ≡ 0) ⊎ IsExcused before after status ⊎ MayStop work before after status
+done_exactly one order before after status (inl (zero, done)) work comes = inl zero
+done_exactly one order before after status (inr (other, refused)) work comes = of_stop refused.stops
   where
-    early : StopsEarly order before refused.stopped other → (status ≡ 0) ⊎ IsExcused before after status ⊎ IsPutFault before after status
+    early : StopsEarly order before refused.stopped other → (status ≡ 0) ⊎ IsExcused before after status ⊎ MayStop work before after status
     early stop = elim stop.cause [
       | inl stops ↦ inr (inl (unread_excused status before refused.stopped after other refused.told refused.inputs
-          (done_or_unread before.inputs refused.stopped.inputs one order output other comes stops)))
+          (done_or_unread before.inputs refused.stopped.inputs one order work other comes stops)))
       | inr wants ↦ inr (inl (wants_excused status before refused.stopped after other refused.told wants))
     ]
 
-    late : StopsLate order before refused.stopped other → (status ≡ 0) ⊎ IsExcused before after status ⊎ IsPutFault before after status
-    late stop = elim stop.cause [
-      | inl failed ↦ inr (inr (
-        refused.told ∙ ap (λ (r : Refusal). r.status) failed.0,
-        rose-later before.outputs.faults refused.stopped.outputs.faults after.outputs.faults failed.1.rose refused.line.went.faults,
-      ))
-      | inr wants ↦ inr (inl (inl (refused.told ∙ ap (λ (r : Refusal). r.status) wants.0)))
-    ]
+    late : StopsLate order before refused.stopped other → (status ≡ 0) ⊎ IsExcused before after status ⊎ MayStop work before after status
+    late stop =
+        let same : stop.work ≡ work =
+        one_work (AreTold before.inputs) (MayHave before.inputs) (told_agrees before.inputs) one order work stop.work comes stop.comes in
+        inr (in_work before refused.stopped after status other refused.told refused.line refused.inputs refused.store work
+        (subst (λ (w : Work). StopsDoing w before refused.stopped other) same stop.cause))
 
-    of_stop : Stops order before refused.stopped other → (status ≡ 0) ⊎ IsExcused before after status ⊎ IsPutFault before after status
+    of_stop : Stops order before refused.stopped other → (status ≡ 0) ⊎ IsExcused before after status ⊎ MayStop work before after status
     of_stop (inl stop) = early stop
     of_stop (inr stop) = late stop
 

@@ -1,6 +1,7 @@
 pub mod Actions
 pub mod Ends
 pub mod NameTexts
+pub mod Playing
 pub mod Puts
 pub mod Streams
 pub mod Steps

@@ -11,8 +11,7 @@ use Rattle.ss_elem.specs.declared.element.Element.{Element}
 use Rattle.ss_events.specs.declared.late.Late.{Late}
 use Rattle.ss_job.specs.JobText.{JobText, VertexText, source, inner, sink}
 use Rattle.ss_plan.specs.Plan.{lists_of, is_source}
-use Rattle.streamscope.specs.Order.{Reading, Step, Gives, source_file, Order, with_sources, ComesTo, ComesToStep}
-use Rattle.streamscope.specs.Output.{Output}
+use Rattle.streamscope.specs.Order.{Reading, Step, Gives, source_file, Order, with_sources, ComesTo, ComesToStep, Work}
 use Rattle.streamscope.specs.Streams.{AreLists, IsSourceList, AddsList, AddsVertex}
 
 -- ---- one more vertex
@@ -106,16 +105,16 @@ lists-count reading job v (sink f ∷ vs) ls rest = lists-count reading job (v +
 -- ---- the order of work over the sources
 
 -- where all sources are read, the work goes on with their lists
-pub with_sources-read : (reading : Reading) (output : Output) (job : JobText) (v : ℕ) (vertices : List VertexText) (lists : List (List Element))
-    (next : List (List Element) → Order) → AreLists reading job v vertices lists → ComesTo reading output (next lists) →
-    ComesTo reading output (with_sources job v vertices next)
-with_sources-read reading output job v [] [] next are comes = comes
-with_sources-read reading output job v [] (l ∷ ls) next are comes = absurd are
-with_sources-read reading output job v (source file late ∷ vs) [] next are comes = absurd are
-with_sources-read reading output job v (source file late ∷ vs) (l ∷ ls) next (gives, rest) comes =
-    (l, gives, with_sources-read reading output job (v + 1) vs ls (λ lists. next (l ∷ lists)) rest comes)
-with_sources-read reading output job v (inner spec policy ∷ vs) ls next rest comes = with_sources-read reading output job (v + 1) vs ls next rest comes
-with_sources-read reading output job v (sink file ∷ vs) ls next rest comes = with_sources-read reading output job (v + 1) vs ls next rest comes
+pub with_sources-read : (reading : Reading) (work : Work) (job : JobText) (v : ℕ) (vertices : List VertexText) (lists : List (List Element))
+    (next : List (List Element) → Order) → AreLists reading job v vertices lists → ComesTo reading work (next lists) →
+    ComesTo reading work (with_sources job v vertices next)
+with_sources-read reading work job v [] [] next are comes = comes
+with_sources-read reading work job v [] (l ∷ ls) next are comes = absurd are
+with_sources-read reading work job v (source file late ∷ vs) [] next are comes = absurd are
+with_sources-read reading work job v (source file late ∷ vs) (l ∷ ls) next (gives, rest) comes =
+    (l, gives, with_sources-read reading work job (v + 1) vs ls (λ lists. next (l ∷ lists)) rest comes)
+with_sources-read reading work job v (inner spec policy ∷ vs) ls next rest comes = with_sources-read reading work job (v + 1) vs ls next rest comes
+with_sources-read reading work job v (sink file ∷ vs) ls next rest comes = with_sources-read reading work job (v + 1) vs ls next rest comes
 
 -- the same of a step behind the sources
 pub with_sources-then : (reading : Reading) (Here : Step → Type 0) (job : JobText) (v : ℕ) (vertices : List VertexText) (lists : List (List Element))

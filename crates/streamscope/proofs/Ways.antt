@@ -13,11 +13,13 @@ use Rattle.ss_job.specs.declared.fault.JobFault.{JobFault}
 use Rattle.ss_job.specs.declared.fault.JobsFault.TheVariants.{At}
 use Rattle.ss_outside.specs.Faults.{Rose}
 use Rattle.ss_outside.specs.Told.{InputsTold}
-use Rattle.ss_report.specs.declared.fault.Fault.TheVariants.{Usage, Job, Events, Inputs}
+use Rattle.ss_fail.specs.Scripts.{acts_of}
+use Rattle.ss_fail.specs.declared.act.Act.{Act}
+use Rattle.ss_fail.specs.declared.fault.ScriptFault.{ScriptFault}
+use Rattle.ss_report.specs.declared.fault.Fault.TheVariants.{Usage, Job, Events, Inputs, Script}
 use Rattle.ss_words.specs.Words.{CommandText}
 use Rattle.streamscope.specs.Ends.{MayHave, AreTold, StopsAt}
-use Rattle.streamscope.specs.Order.{Reading, Step, words, job_file, source_file, streams_fit, ListRefused, too_long, Value, Gives, Finds, Order, first, put, ComesTo, ComesToStep}
-use Rattle.streamscope.specs.Output.{Output}
+use Rattle.streamscope.specs.Order.{Reading, Step, words, job_file, source_file, schedule_file, streams_fit, ListRefused, too_long, Value, Gives, Finds, Work, Order, first, last, ComesTo, ComesToStep}
 use Rattle.streamscope.specs.Refusal.{Refusal, refusal_of, shared}
 
 -- what the job reader says of bytes is one thing
@@ -45,6 +47,8 @@ same_value R S agree one (job_file file) v w (x, read, says) (y, read_too, says_
 same_value R S agree one (streams_fit plan) v w h k = refl
 same_value R S agree one (source_file job n file late) v w (x, read, has, short) (y, read_too, has_too, short_too) =
     let same : event_list y late ≡ event_list x late = ap (λ (b : List ℕ). event_list b late) (agree.bytes file x y read read_too) in cc
+same_value R S agree one (schedule_file job file) v w (x, read, has) (y, read_too, has_too) =
+    let same : acts_of job.roles y ≡ acts_of job.roles x = ap (λ (b : List ℕ). acts_of job.roles b) (agree.bytes file x y read read_too) in cc
 
 -- a step that gives a value finds nothing
 pub gives_or_finds : (R S : Reading) → Agree R S → OneReading → (step : Step) (v : Value step) (refusal : Refusal) → Gives R step v → Finds S step refusal → ⊥
@@ -56,6 +60,9 @@ gives_or_finds R S agree one (source_file job n file late) v refusal (x, read, h
     let long = subst (λ (r : Result (List Element) EventFault). ListRefused job n file r refusal) (same ∙ has) refused in
     let more = long.0 in
     omega (arith, more, short)
+gives_or_finds R S agree one (schedule_file job file) v refusal (x, read, has) (y, fault, read_too, refused, is) =
+    let same : acts_of job.roles y ≡ acts_of job.roles x = ap (λ (b : List ℕ). acts_of job.roles b) (agree.bytes file x y read read_too) in
+    absurd (cc (same, has, refused))
 gives_or_finds R S agree one (streams_fit plan) v refusal fit (long, which, is) = fit long which.here
 
 pub nat_three : (v w : ℕ) → (v < w) ⊎ ((v ≡ w) ⊎ (w < v))
@@ -91,24 +98,28 @@ same_finding R S agree one (source_file job n file late) refusal other (x, read,
     one_list : (r : Result (List Element) EventFault) → ListRefused job n file r refusal → ListRefused job n file r other → other ≡ refusal
     one_list (Ok list) (long, is) (long_too, is_too) = is_too ∙ sym is
     one_list (Err fault) is is_too = is_too ∙ sym is
+same_finding R S agree one (schedule_file job file) refusal other (x, fault, read, refused, is) (y, fault_too, read_too, refused_too, is_too) =
+    let same : acts_of job.roles y ≡ acts_of job.roles x = ap (λ (b : List ℕ). acts_of job.roles b) (agree.bytes file x y read read_too) in
+    let alike : fault ≡ fault_too = cc in
+    is_too ∙ sym (ap (λ (f : ScriptFault). refusal_of (Script (shared file) f)) alike) ∙ sym is
 same_finding R S agree one (streams_fit plan) refusal other (u, which, is) (w, which_too, is_too) =
     is_too ∙ ap (too_long plan.job) (one_first (IsLongAmong every plan) w u which_too which) ∙ sym is
 
 -- ---- the whole way
 
-pub refused_or_comes : (R S : Reading) → Agree R S → OneReading → (order : Order) (refusal : Refusal) (output : Output) →
-    ComesToStep R (λ step. Finds R step refusal) order → ComesTo S output order → ⊥
-refused_or_comes R S agree one (put o) refusal output h k = h
-refused_or_comes R S agree one (first step next) refusal output (inl found) (w, gives, comes) =
+pub refused_or_comes : (R S : Reading) → Agree R S → OneReading → (order : Order) (refusal : Refusal) (work : Work) →
+    ComesToStep R (λ step. Finds R step refusal) order → ComesTo S work order → ⊥
+refused_or_comes R S agree one (last o) refusal work h k = h
+refused_or_comes R S agree one (first step next) refusal work (inl found) (w, gives, comes) =
     gives_or_finds S R (agree-sym R S agree) one step w refusal gives found
-refused_or_comes R S agree one (first step next) refusal output (inr (v, gives, later)) (w, gives_too, comes) =
+refused_or_comes R S agree one (first step next) refusal work (inr (v, gives, later)) (w, gives_too, comes) =
     let same : w ≡ v = same_value R S agree one step v w gives gives_too in
-    refused_or_comes R S agree one (next v) refusal output later (subst (λ (x : Value step). ComesTo S output (next x)) same comes)
+    refused_or_comes R S agree one (next v) refusal work later (subst (λ (x : Value step). ComesTo S work (next x)) same comes)
 
 pub refused_alike : (before after : InputsTold) → OneReading → (order : Order) (refusal other : Refusal) →
     ComesToStep (AreTold before) (λ step. Finds (AreTold before) step refusal) order →
     ComesToStep (MayHave before) (StopsAt before after other) order → (other ≡ refusal) ⊎ ((other.status ≡ 5) × Rose before.faults after.faults)
-refused_alike before after one (put o) refusal other h k = absurd h
+refused_alike before after one (last o) refusal other h k = absurd h
 refused_alike before after one (first step next) refusal other (inl found) (inl (inl (found_too, kept))) =
     inl (same_finding (AreTold before) (MayHave before) (told_agrees before) one step refusal other found found_too)
 refused_alike before after one (first step next) refusal other h (inl (inr (file, reads, (fails, is)))) =
@@ -123,15 +134,22 @@ refused_alike before after one (first step next) refusal other (inr (v, gives, l
     (subst (λ (x : Value step). ComesToStep (MayHave before) (StopsAt before after other) (next x)) same later_too)
 
 -- where the files lead to the output, the work stops before it only where a file could not be read
-pub done_or_unread : (before after : InputsTold) → OneReading → (order : Order) (output : Output) (other : Refusal) →
-    ComesTo (AreTold before) output order → ComesToStep (MayHave before) (StopsAt before after other) order →
+pub done_or_unread : (before after : InputsTold) → OneReading → (order : Order) (work : Work) (other : Refusal) →
+    ComesTo (AreTold before) work order → ComesToStep (MayHave before) (StopsAt before after other) order →
     (other.status ≡ 5) × Rose before.faults after.faults
-done_or_unread before after one (put o) output other h k = absurd k
-done_or_unread before after one (first step next) output other (v, gives, comes) (inl (inl (found, kept))) =
+done_or_unread before after one (last o) work other h k = absurd k
+done_or_unread before after one (first step next) work other (v, gives, comes) (inl (inl (found, kept))) =
     absurd (gives_or_finds (AreTold before) (MayHave before) (told_agrees before) one step v other gives found)
-done_or_unread before after one (first step next) output other h (inl (inr (file, reads, (fails, is)))) =
+done_or_unread before after one (first step next) work other h (inl (inr (file, reads, (fails, is)))) =
     (ap (λ (r : Refusal). r.status) is, fails.faults)
-done_or_unread before after one (first step next) output other (v, gives, comes) (inr (w, gives_too, later)) =
+done_or_unread before after one (first step next) work other (v, gives, comes) (inr (w, gives_too, later)) =
     let same : w ≡ v = same_value (AreTold before) (MayHave before) (told_agrees before) one step v w gives gives_too in
-    done_or_unread before after one (next v) output other comes
+    done_or_unread before after one (next v) work other comes
     (subst (λ (x : Value step). ComesToStep (MayHave before) (StopsAt before after other) (next x)) same later)
+
+-- one order comes to one work
+pub one_work : (R S : Reading) → Agree R S → OneReading → (order : Order) (work other : Work) → ComesTo R work order → ComesTo S other order → other ≡ work
+one_work R S agree one (last o) work other h k = sym k ∙ h
+one_work R S agree one (first step next) work other (v, gives, comes) (w, gives_too, comes_too) =
+    let same : w ≡ v = same_value R S agree one step v w gives gives_too in
+    one_work R S agree one (next v) work other comes (subst (λ (x : Value step). ComesTo S other (next x)) same comes_too)

@@ -8,26 +8,26 @@ use Rattle.ss_plan.specs.Plan.{PlanText}
 use Rattle.ss_plan.specs.Streams.{every}
 use Rattle.ss_report.specs.declared.fault.Fault.{Fault}
 use Rattle.ss_report.specs.declared.fault.Fault.TheVariants.{Memory}
-use Rattle.ss_words.specs.declared.words.Action.{Action}
-use Rattle.ss_words.specs.declared.words.Action.TheVariants.{Check, Plain, Run}
-use Rattle.streamscope.specs.Ends.{StopsInPuts}
 use Rattle.streamscope.specs.Order.{too_long}
-use Rattle.streamscope.specs.Output.{Streams, meaning_of, all_sink_puts, run_puts}
-use Rattle.streamscope.specs.Puts.{Put, Went, WentWhole}
+use Rattle.streamscope.specs.Output.{Output, sink_lines, run_lines, puts_of, Streams, all_sink_puts, run_puts}
+use Rattle.streamscope.specs.Puts.{Put, Went, WentWhole, StopsInPuts}
 use Rattle.streamscope.specs.Refusal.{Refusal, refusal_of}
+use Rattle.streamscope.specs.declared.closing.Closing.{Closing}
+use Rattle.streamscope.specs.declared.closing.Closing.TheVariants.{Nothing, Summary}
 
 -- the list under each number
 abbrev pub list_at : List (List Element) → Streams
 list_at lists v = get_or lists v []
 
--- what an action puts of a job, where these are the streams of its vertices
-abbrev pub puts_with : Action → JobText → Streams → List Put
-puts_with Check job streams = []
-puts_with Plain job streams = all_sink_puts job streams
-puts_with Run job streams = run_puts job streams
+-- what is put of a job that is closed so, where these are the streams of its vertices
+abbrev pub puts_with : Closing → JobText → Streams → List Put
+puts_with Nothing job streams = all_sink_puts job streams
+puts_with Summary job streams = run_puts job streams
 
-abbrev pub puts_of : Action → PlanText → List Put
-puts_of action plan = puts_with action plan.job (meaning_of plan)
+-- the output of a plan that is closed so
+abbrev pub output_with : Closing → PlanText → Output
+output_with Nothing plan = sink_lines plan
+output_with Summary plan = run_lines plan
 
 -- no stream is too long
 abbrev pub StreamsFit : PlanText → Type 0
@@ -39,8 +39,8 @@ StopsInStreams plan refusal =
     ((v : ℕ) × IsFirst (IsLongAmong every plan) v × (refusal ≡ too_long plan.job v)) ⊎ (refusal ≡ refusal_of Memory)
 
 -- how it ends that the streams of a plan are computed and then put
-abbrev pub PutsStreams : Action → PlanText → OutputsTold → OutputsTold → Result ⊤ Fault → Type 0
-PutsStreams action plan old new (Ok _) = StreamsFit plan × WentWhole old new (puts_of action plan)
-PutsStreams action plan old new (Err fault) =
+abbrev pub PutsStreams : Closing → PlanText → OutputsTold → OutputsTold → Result ⊤ Fault → Type 0
+PutsStreams closing plan old new (Ok _) = StreamsFit plan × WentWhole old new (puts_of (output_with closing plan))
+PutsStreams closing plan old new (Err fault) =
     (StopsInStreams plan (refusal_of fault) × Went old new [])
-    ⊎ (StreamsFit plan × StopsInPuts old new (puts_of action plan) (refusal_of fault))
+    ⊎ (StreamsFit plan × StopsInPuts old new (puts_of (output_with closing plan)) (refusal_of fault))

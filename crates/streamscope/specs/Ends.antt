@@ -2,23 +2,18 @@
 use Rattle.std.specs.Prelude.{◌≡◌, ◌⊎◌, ℕ, ◌≤◌, List, [], ◌∷◌, length, take, Some, codes}
 use Rattle.ss_outside.specs.Faults.{Rose}
 use Rattle.ss_outside.specs.Told.{InputsTold, OutputsTold, HeldFile, held, MayGive, KeepsInputs, FailsAt}
+use Rattle.ss_plan.specs.Limit.{IsLongAmong}
+use Rattle.ss_plan.specs.Plan.{PlanText}
+use Rattle.ss_plan.specs.Streams.{every}
 use Rattle.ss_report.specs.declared.fault.Fault.{Fault}
-use Rattle.ss_report.specs.declared.fault.Fault.TheVariants.{Usage, Inputs, Output as OutputFault, Memory}
+use Rattle.ss_report.specs.declared.fault.Fault.TheVariants.{Usage, Inputs, Memory}
 use Rattle.streamscope.specs.Order.{Asked, Reading, Step, Value, Gives, Finds, file_read}
-use Rattle.streamscope.specs.Order.{Order, order_of, ComesTo, ComesToStep}
-use Rattle.streamscope.specs.Output.{Output, ArePutsOf}
-use Rattle.streamscope.specs.Puts.{Put, put_of, Went, WentWhole, PutFailed, StoppedBetween}
+use Rattle.streamscope.specs.Order.{Work, puts, acts, Order, order_of, ComesTo, ComesToStep}
+use Rattle.streamscope.specs.Output.{Output, puts_of}
+use Rattle.streamscope.specs.Playing.{MakesAll, StopsMaking}
+use Rattle.streamscope.specs.Puts.{put_of, Went, WentWhole, StopsInPuts}
 use Rattle.streamscope.specs.Refusal.{Refusal, refusal_of, shared}
-use Rattle.streamscope.specs.declared.outside.Outside.{Outside}
-
--- what the outside tells at one moment
-pub record Seen : Type 0 where
-  pub inputs : InputsTold
-  pub outputs : OutputsTold
-
-abbrev pub seen : {I O D : Type 0} → (I → InputsTold) → (O → OutputsTold) → Outside I O D → Seen
-seen inputs_told outputs_told outside =
-    record { inputs = inputs_told outside.inputs; outputs = outputs_told outside.outputs }
+use Rattle.streamscope.specs.Seen.{Seen}
 
 -- the bytes that files may have, as far as it is told
 abbrev pub MayHave : InputsTold → Reading
@@ -48,12 +43,6 @@ StopsAt before after refusal step =
 abbrev pub WantsMemory : InputsTold → InputsTold → Refusal → Type 0
 WantsMemory before after refusal = (refusal ≡ refusal_of Memory) × KeepsInputs before after
 
--- a put failed, or memory was wanting between two
-abbrev pub StopsInPuts : OutputsTold → OutputsTold → List Put → Refusal → Type 0
-StopsInPuts before after puts refusal =
-    ((refusal ≡ refusal_of OutputFault) × PutFailed before after puts)
-    ⊎ ((refusal ≡ refusal_of Memory) × StoppedBetween before after puts)
-
 -- a step gives this value, and no read fails
 abbrev pub Passes : InputsTold → InputsTold → (step : Step) → Value step → Type 0
 Passes before after step value = Gives (MayHave before) step value × KeepsInputs before after
@@ -67,27 +56,46 @@ pub record StopsEarly (order : Order) (before after : Seen) (refusal : Refusal) 
   pub cause : ComesToStep (MayHave before.inputs) (StopsAt before.inputs after.inputs refusal) order
       ⊎ WantsMemory before.inputs after.inputs refusal
   pub nothing : Went before.outputs after.outputs []
+  pub store : after.depot ≡ before.depot
 
--- the work comes to its output, and stops among the puts
+-- ---- the work behind the steps
+
+-- an output is put whole, and nothing else is done
+pub record PutsAll (output : Output) (before after : Seen) : Type 0 where
+  pub whole : WentWhole before.outputs after.outputs (puts_of output)
+  pub store : after.depot ≡ before.depot
+  pub inputs : KeepsInputs before.inputs after.inputs
+
+-- it is not put whole, and nothing else is done
+pub record StopsPutting (output : Output) (before after : Seen) (refusal : Refusal) : Type 0 where
+  pub cause : StopsInPuts before.outputs after.outputs (puts_of output) refusal
+  pub store : after.depot ≡ before.depot
+
+-- work is done
+abbrev pub DoesAll : Work → Seen → Seen → Type 0
+DoesAll (puts output) before after = PutsAll output before after
+DoesAll (acts plan made) before after = MakesAll plan made before after
+
+-- work stops
+abbrev pub StopsDoing : Work → Seen → Seen → Refusal → Type 0
+StopsDoing (puts output) before after refusal = StopsPutting output before after refusal
+StopsDoing (acts plan made) before after refusal = StopsMaking plan made before after refusal
+
+-- the steps are taken, and the work behind them stops; nothing is released
 pub record StopsLate (order : Order) (before after : Seen) (refusal : Refusal) : Type 0 where
-  pub output : Output
-  pub puts : List Put
-  pub comes : ComesTo (MayHave before.inputs) output order
-  pub expected : ArePutsOf output puts
-  pub cause : StopsInPuts before.outputs after.outputs puts refusal
+  pub work : Work
+  pub comes : ComesTo (MayHave before.inputs) work order
+  pub cause : StopsDoing work before after refusal
   pub inputs : KeepsInputs before.inputs after.inputs
 
 abbrev pub Stops : Order → Seen → Seen → Refusal → Type 0
 Stops order before after refusal = StopsEarly order before after refusal ⊎ StopsLate order before after refusal
 
--- the work comes to its output, all of which is put
+-- the steps are taken, and the work behind them is done
 pub record IsDone (order : Order) (before after : Seen) : Type 0 where
-  pub output : Output
-  pub puts : List Put
-  pub comes : ComesTo (MayHave before.inputs) output order
-  pub expected : ArePutsOf output puts
-  pub whole : WentWhole before.outputs after.outputs puts
-  pub inputs : KeepsInputs before.inputs after.inputs
+  pub work : Work
+  pub comes : ComesTo (MayHave before.inputs) work order
+  pub whole : DoesAll work before after
 
 -- the first n bytes of a line went to standard error: all of it or none, unless the device failed
 pub record TellsLine (old new : OutputsTold) (line : List ℕ) : Type 0 where
@@ -102,6 +110,7 @@ pub record IsRefused (order : Order) (refusal : Refusal) (before after : Seen) (
   pub told : status ≡ refusal.status
   pub line : TellsLine stopped.outputs after.outputs refusal.line
   pub inputs : after.inputs ≡ stopped.inputs
+  pub store : after.depot ≡ stopped.depot
 
 -- there were no words that are text, or no memory for them, which a line tells
 abbrev pub TellsNoWords : OutputsTold → OutputsTold → ℕ → Type 0
@@ -117,6 +126,22 @@ IsExcused before after status = (status ≡ 10) ⊎ ((status ≡ 5) × Rose befo
 abbrev pub IsPutFault : Seen → Seen → ℕ → Type 0
 IsPutFault before after status = (status ≡ 7) × Rose before.outputs.faults after.outputs.faults
 
+-- the store failed, or gave bytes that were not whole
+abbrev pub IsStoreFault : Seen → Seen → ℕ → Type 0
+IsStoreFault before after status =
+    ((status ≡ 6) × Rose before.depot.faults after.depot.faults)
+    ⊎ ((status ≡ 11) × Rose before.depot.shorts after.depot.shorts)
+
+-- a stream of the plan is too long
+abbrev pub IsTooLong : PlanText → ℕ → Type 0
+IsTooLong plan status = (status ≡ 9) × ((v : ℕ) × IsLongAmong every plan v)
+
+-- what may stop work, besides want of memory
+abbrev pub MayStop : Work → Seen → Seen → ℕ → Type 0
+MayStop (puts output) before after status = IsPutFault before after status
+MayStop (acts plan made) before after status =
+    IsPutFault before after status ⊎ IsStoreFault before after status ⊎ IsTooLong plan status
+
 abbrev pub EndsBy : Order → Seen → Seen → ℕ → Type 0
 EndsBy order before after status =
     ((status ≡ 0) × IsDone order before after)
@@ -130,6 +155,6 @@ pub record Ends (asked : Asked) (before after : Seen) (status : ℕ) : Type 0 wh
   pub refused : (refusal : Refusal) →
       ComesToStep (AreTold before.inputs) (λ step. Finds (AreTold before.inputs) step refusal) (order_of asked) →
       IsRefused (order_of asked) refusal before after status ⊎ IsExcused before after status
-  -- and whole where they are told to lead to the output
-  pub done : (output : Output) → ComesTo (AreTold before.inputs) output (order_of asked) →
-      (status ≡ 0) ⊎ IsExcused before after status ⊎ IsPutFault before after status
+  -- and whole where they are told to lead to the work behind the steps
+  pub done : (work : Work) → ComesTo (AreTold before.inputs) work (order_of asked) →
+      (status ≡ 0) ⊎ IsExcused before after status ⊎ MayStop work before after status

@@ -1,10 +1,13 @@
--- The order of work: which steps a command takes, one after the other, and what it puts in the end.
+-- The order of work: which steps a command takes, one after the other, and what work stands behind them.
 use Rattle.std.specs.Prelude.{◌≡◌, ⊤, ◌⊎◌, ℕ, ◌+◌, List, [], ◌∷◌, Option, Some, None, Ok, Err}
 use Rattle.std.specs.Prelude.{◌<◌, ◌≤◌, Result, length}
 use Rattle.ss_elem.specs.declared.element.Element.{Element}
 use Rattle.ss_events.specs.Events.{event_list}
 use Rattle.ss_events.specs.declared.late.Late.{Late}
 use Rattle.ss_events.specs.declared.fault.EventFault.{EventFault}
+use Rattle.ss_fail.specs.Scripts.{acts_of}
+use Rattle.ss_fail.specs.declared.act.Act.{Act}
+use Rattle.ss_fail.specs.declared.fault.ScriptFault.{ScriptFault}
 use Rattle.ss_job.specs.JobText.{VertexText, source, inner, sink, JobText}
 use Rattle.ss_job.specs.Says.{Says, Refuses}
 use Rattle.ss_job.specs.declared.fault.JobFault.{JobFault}
@@ -13,10 +16,8 @@ use Rattle.ss_plan.specs.Limit.{IsFirst, IsLongAmong}
 use Rattle.ss_plan.specs.Plan.{PlanText}
 use Rattle.ss_plan.specs.Streams.{every}
 use Rattle.ss_report.specs.StateText.{name_of}
-use Rattle.ss_report.specs.declared.fault.Fault.TheVariants.{Usage, Job, Events, Full}
-use Rattle.ss_words.specs.Words.{CommandText}
-use Rattle.ss_words.specs.declared.words.Action.{Action}
-use Rattle.ss_words.specs.declared.words.Action.TheVariants.{Check, Plain, Run}
+use Rattle.ss_report.specs.declared.fault.Fault.TheVariants.{Usage, Job, Events, Script, Full}
+use Rattle.ss_words.specs.Words.{CommandText, check_job, plain_job, run_job, play_job, job_of}
 use Rattle.streamscope.specs.Output.{Output, job_lines, sink_lines, run_lines}
 use Rattle.streamscope.specs.Refusal.{Refusal, refusal_of, shared}
 
@@ -34,6 +35,8 @@ pub data Step : Type 0 where
   job_file : List ℕ → Step
   -- read the elements that the file of a source has, and measure them: of the job, the vertex
   source_file : JobText → ℕ → List ℕ → Late → Step
+  -- read the acts on a job that a schedule says
+  schedule_file : JobText → List ℕ → Step
   -- see that no stream is too long
   streams_fit : PlanText → Step
 
@@ -42,6 +45,7 @@ abbrev pub Value : Step → Type 0
 Value (words asked) = CommandText
 Value (job_file file) = JobText
 Value (source_file job v file late) = List Element
+Value (schedule_file job file) = List Act
 Value (streams_fit plan) = ⊤
 
 -- the file that a step reads
@@ -49,6 +53,7 @@ abbrev pub file_read : Step → Option (List ℕ)
 file_read (words asked) = None
 file_read (job_file file) = Some file
 file_read (source_file job v file late) = Some file
+file_read (schedule_file job file) = Some file
 file_read (streams_fit plan) = None
 
 -- what is told of a stream that is too long
@@ -70,6 +75,8 @@ Gives reading (words asked) command = asked ≡ Some command
 Gives reading (job_file file) job = (bytes : List ℕ) × reading file bytes × Says bytes job
 Gives reading (source_file job v file late) list =
     (bytes : List ℕ) × reading file bytes × (event_list bytes late ≡ Ok list) × (length list ≤ job.max_elements)
+Gives reading (schedule_file job file) acts =
+    (bytes : List ℕ) × reading file bytes × (acts_of job.roles bytes ≡ Ok acts)
 Gives reading (streams_fit plan) nothing = (v : ℕ) → IsLongAmong every plan v → ⊥
 
 -- a step finds what the work is refused for
@@ -80,15 +87,25 @@ Finds reading (job_file file) refusal =
     × (refusal ≡ refusal_of (Job fault))
 Finds reading (source_file job v file late) refusal =
     (bytes : List ℕ) × reading file bytes × ListRefused job v file (event_list bytes late) refusal
+Finds reading (schedule_file job file) refusal =
+    (bytes : List ℕ) × (fault : ScriptFault) × reading file bytes × (acts_of job.roles bytes ≡ Err fault)
+    × (refusal ≡ refusal_of (Script (shared file) fault))
 Finds reading (streams_fit plan) refusal =
     (v : ℕ) × IsFirst (IsLongAmong every plan) v × (refusal ≡ too_long plan.job v)
 
 -- ---- the order of work
 
--- the steps that are taken, each going on with the values of those before it, and what is put in the end
+-- what is done behind the last step
+pub data Work : Type 0 where
+  -- an output is put
+  puts : Output → Work
+  -- these acts are made on a plan, one behind the other, and reported; then the sources are released
+  acts : PlanText → List Act → Work
+
+-- the steps that are taken, each going on with the values of those before it, and the work behind them
 pub data Order : Type 0 where
   first : (step : Step) → (Value step → Order) → Order
-  put : Output → Order
+  last : Work → Order
 
 -- reads the sources of a job among these vertices, the first of which is v, and goes on with their lists
 abbrev pub with_sources : JobText → ℕ → List VertexText → (List (List Element) → Order) → Order
@@ -98,21 +115,28 @@ with_sources job v (source file late ∷ vertices) next =
 with_sources job v (inner spec policy ∷ vertices) next = with_sources job (v + 1) vertices next
 with_sources job v (sink file ∷ vertices) next = with_sources job (v + 1) vertices next
 
--- reads the sources of a job, computes its streams, and goes on with what is put of the plan
+-- reads the sources of a job, computes its streams, and puts an output of the plan
 abbrev pub with_streams : JobText → (PlanText → Output) → Order
 with_streams job output =
     with_sources job 0 job.vertices (λ lists.
     let plan : PlanText = record { job = job; lists = lists } in
-    first (streams_fit plan) (λ _. put (output plan)))
+    first (streams_fit plan) (λ _. last (puts (output plan))))
 
--- each action, once its job is read
-abbrev pub order_with : Action → JobText → Order
-order_with Check job = put (job_lines job)
-order_with Plain job = with_streams job sink_lines
-order_with Run job = with_streams job run_lines
+-- reads the sources of a job and a schedule, and makes its acts
+abbrev pub with_acts : JobText → List ℕ → Order
+with_acts job schedule =
+    with_sources job 0 job.vertices (λ lists.
+    first (schedule_file job schedule) (λ made. last (acts (record { job = job; lists = lists }) made)))
+
+-- each command, once its job is read
+abbrev pub order_with : CommandText → JobText → Order
+order_with (check_job file) job = last (puts (job_lines job))
+order_with (plain_job file) job = with_streams job sink_lines
+order_with (run_job file) job = with_streams job run_lines
+order_with (play_job file schedule) job = with_acts job schedule
 
 abbrev pub order_for : CommandText → Order
-order_for command = first (job_file command.job) (λ job. order_with command.action job)
+order_for command = first (job_file (job_of command)) (order_with command)
 
 -- of all commands
 abbrev pub order_of : Asked → Order
@@ -120,14 +144,14 @@ order_of asked = first (words asked) order_for
 
 -- ---- how far the work comes
 
--- each step gives its value, and the work comes to this output
-abbrev pub ComesTo : Reading → Output → Order → Type 0
-ComesTo reading output (first step next) =
-    (value : Value step) × Gives reading step value × ComesTo reading output (next value)
-ComesTo reading output (put other) = other ≡ output
+-- each step gives its value, and this work stands behind them
+abbrev pub ComesTo : Reading → Work → Order → Type 0
+ComesTo reading work (first step next) =
+    (value : Value step) × Gives reading step value × ComesTo reading work (next value)
+ComesTo reading work (last other) = other ≡ work
 
 -- the work comes to a step of which this holds, and those before it give their values
 abbrev pub ComesToStep : Reading → (Step → Type 0) → Order → Type 0
 ComesToStep reading Here (first step next) =
     Here step ⊎ ((value : Value step) × Gives reading step value × ComesToStep reading Here (next value))
-ComesToStep reading Here (put output) = ⊥
+ComesToStep reading Here (last work) = ⊥

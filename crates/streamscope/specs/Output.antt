@@ -108,7 +108,7 @@ abbrev pub meaning_of : PlanText → Streams
 meaning_of plan = meaning (vertices_of plan)
 
 -- these puts, in this order, are the output
-abbrev pub ArePutsOf : Output → List Put → Type 0
-ArePutsOf (job_lines job) puts = puts ≡ check_puts job
-ArePutsOf (sink_lines plan) puts = puts ≡ all_sink_puts plan.job (meaning_of plan)
-ArePutsOf (run_lines plan) puts = puts ≡ run_puts plan.job (meaning_of plan)
+abbrev pub puts_of : Output → List Put
+puts_of (job_lines job) = check_puts job
+puts_of (sink_lines plan) = all_sink_puts plan.job (meaning_of plan)
+puts_of (run_lines plan) = run_puts plan.job (meaning_of plan)

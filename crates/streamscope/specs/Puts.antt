@@ -1,5 +1,5 @@
 -- What is put to outputs: a list of puts, one after the other.
-use Rattle.std.specs.Prelude.{◌≡◌, ℕ, ◌≤◌, Bool, true, false, List, [], ◌∷◌, ◌++◌, map, take, Result, Ok, Err}
+use Rattle.std.specs.Prelude.{◌≡◌, ◌⊎◌, ℕ, ◌≤◌, Bool, true, false, List, [], ◌∷◌, ◌++◌, map, take, Result, Ok, Err}
 use Rattle.std.specs.Prelude.{option_map, if◌then◌else◌, bytes_eq}
 use Rattle.std.specs.List.{list_any}
 use Rattle.ss_elem.specs.Line.{line_of}
@@ -8,6 +8,8 @@ use Rattle.ss_outside.specs.Faults.{Rose}
 use Rattle.ss_outside.specs.Told.{OutputsTold}
 use Rattle.ss_outside.specs.declared.outputs.PutFault.{PutFault}
 use Rattle.ss_outside.specs.declared.outputs.PutFault.TheVariants.{Failed, Memory}
+use Rattle.ss_report.specs.declared.fault.Fault.TheVariants as report
+use Rattle.streamscope.specs.Refusal.{Refusal, refusal_of}
 
 -- bytes that are put to a name
 pub record Put : Type 0 where
@@ -67,3 +69,9 @@ abbrev pub Wrote : OutputsTold → OutputsTold → List Put → Result (Unit {0}
 Wrote old new puts (Ok _) = WentWhole old new puts
 Wrote old new puts (Err Failed) = PutFailed old new puts
 Wrote old new puts (Err Memory) = StoppedBetween old new puts
+
+-- puts stop: one fails, or memory is wanting between two
+abbrev pub StopsInPuts : OutputsTold → OutputsTold → List Put → Refusal → Type 0
+StopsInPuts before after puts refusal =
+    ((refusal ≡ refusal_of report.Output) × PutFailed before after puts)
+    ⊎ ((refusal ≡ refusal_of report.Memory) × StoppedBetween before after puts)

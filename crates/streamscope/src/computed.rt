@@ -1,31 +1,28 @@
-ghost use Rattle.std.specs.Prelude.{◌≡◌, ◌≢◌};
-ghost use Rattle.ss_words.specs.declared.words.Action.TheVariants.{Check};
 ghost use Rattle.streamscope.specs.Computed.{PutsStreams};
 
+use crate::closing::Closing;
 use crate::read::too_long;
 use crate::write::write_output;
 use ss_outside::{Outputs, PutFault};
 use ss_plan::{Plan, PlanFault, plain_all};
 use ss_report::Fault;
-use ss_words::Action;
 use std::alloc::Global;
 
-/// Computes the streams of a plan, and then writes each sink's file, in order, and after a run the summary.
+/// Computes the streams of a plan, and then writes each sink's file, in order, and what closes them.
 pub(crate) fn put_streams<'a, O: Outputs>(
     alloc: Global,
-    action: Action,
+    closing: Closing,
     plan: &'a Plan,
     outputs: &mut O,
 ) -> Result<(), Fault<'a>>
-    requires { action ≢ Check }
-    ensures { PutsStreams action plan.entry.now (O.told outputs.old) (O.told outputs.new) result }
+    ensures { PutsStreams closing plan.entry.now (O.told outputs.old) (O.told outputs.new) result }
 {
     let streams = match plain_all(alloc, plan) {
         Ok(streams) => streams,
         Err(PlanFault::Full { v, .. }) => return Err(too_long(plan.job(), v)),
         Err(PlanFault::Memory) => return Err(Fault::Memory),
     };
-    match write_output(alloc, outputs, action, plan.job(), streams.as_slice()) {
+    match write_output(alloc, outputs, closing, plan.job(), streams.as_slice()) {
         Ok(()) => Ok(()),
         Err(PutFault::Failed) => Err(Fault::Output),
         Err(PutFault::Memory) => Err(Fault::Memory),

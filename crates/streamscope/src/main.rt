@@ -3,15 +3,20 @@
 
 ghost use Rattle.std.specs.IoError.{error_kind};
 ghost use Rattle.std.specs.Prelude.{◌≡◌, ◌⊎◌, ◌↔◌, drop, map, string_bytes, IfOk, OnErr};
+ghost use Rattle.ss_outside.specs.Depot.{no_contents};
+ghost use Rattle.ss_vault.specs.Calls.{HaveNoBytes};
 ghost use Rattle.ss_words.specs.Words.{command_of};
-ghost use Rattle.streamscope.specs.Ends.{Ends, TellsNoWords, seen};
+ghost use Rattle.streamscope.specs.Ends.{Ends, TellsNoWords};
+ghost use Rattle.streamscope.specs.Seen.{seen};
 ghost use Rattle.std.specs.Vec.Iter.{into_iter_items};
 ghost use Rattle.std.specs.Process.{exit_status};
 
 mod check;
+mod closing;
 mod computed;
 mod outside;
 mod perform;
+mod play;
 mod read;
 mod run;
 mod sinks;
@@ -49,11 +54,13 @@ fn perform_all<I: Inputs, O: Outputs, D: Depot>(
     words: io::Result<Vec<String>>,
     mut outside: Outside<I, O, D>,
 ) -> (ExitCode, Outside<I, O, D>)
+    requires depot { (D.told outside.depot).contents ≡ no_contents }
+    requires outputs { HaveNoBytes (O.told outside.outputs) }
     ensures words { IfOk words (λ all. Ends (command_of (map string_bytes (drop 1 all.items)))
-        (seen I.told O.told outside) (seen I.told O.told result.1) (exit_status result.0)) }
+        (seen I.told O.told D.told outside) (seen I.told O.told D.told result.1) (exit_status result.0)) }
     ensures none { OnErr words
         (TellsNoWords (O.told outside.outputs) (O.told result.1.outputs) (exit_status result.0)) }
-    ensures depot { result.1.depot ≡ outside.depot }
+    ensures depot { OnErr words (D.told result.1.depot ≡ D.told outside.depot) }
 {
     match words {
         Ok(words) => {

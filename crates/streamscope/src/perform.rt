@@ -1,8 +1,11 @@
 ghost use Rattle.std.specs.Prelude.{◌≡◌, map, string_bytes};
+ghost use Rattle.ss_outside.specs.Depot.{no_contents};
 ghost use Rattle.ss_report.specs.FaultText.{fault_text};
+ghost use Rattle.ss_vault.specs.Calls.{HaveNoBytes};
 ghost use Rattle.ss_words.specs.Words.{command_of};
-ghost use Rattle.streamscope.specs.Ends.{Ends, TellsLine, seen};
+ghost use Rattle.streamscope.specs.Ends.{Ends, TellsLine};
 ghost use Rattle.streamscope.specs.Refusal.{refusal_of};
+ghost use Rattle.streamscope.specs.Seen.{seen};
 
 use crate::outside::{Done, Outside};
 use crate::work::work;
@@ -21,42 +24,48 @@ use std::alloc::Global;
 /// | 3 | the job file says no job |
 /// | 4 | a source's file is no file of events |
 /// | 5 | a file could not be read |
+/// | 6 | the store failed |
 /// | 7 | an output failed |
+/// | 8 | the schedule's file says no acts |
 /// | 9 | a stream has more elements than the job allows |
 /// | 10 | memory ran out |
+/// | 11 | the store gave bytes that aren't what was stored |
 ///
 /// Where the status isn't 0, one line that tells the fault is put to standard error, behind whatever the
-/// command had written; whether that put succeeds doesn't change the status.
+/// command had written; whether that put succeeds doesn't change the status. The depot has to hold nothing, and no
+/// output bytes, as far as it is told.
 pub fn perform<I: Inputs, O: Outputs, D: Depot>(
     alloc: Global,
     words: &[String],
-    mut outside: Outside<I, O, D>,
+    outside: Outside<I, O, D>,
 ) -> Done<I, O, D>
-    ensures ends { Ends (command_of (map string_bytes words.now))
-        (seen I.told O.told outside) (seen I.told O.told result.outside) result.status }
-    ensures depot { result.outside.depot ≡ outside.depot }
-{
-    let status = conclude(alloc, words, &mut outside);
-    Done { status, outside }
-}
-
-/// Does what the words say, and tells the fault where one stopped it.
-fn conclude<I: Inputs, O: Outputs, D: Depot>(
-    alloc: Global,
-    words: &[String],
-    outside: &mut Outside<I, O, D>,
-) -> u8
-    ensures ends { Ends (command_of (map string_bytes words.now))
-        (seen I.told O.told outside.old) (seen I.told O.told outside.new) result }
-    ensures depot { outside.new.depot ≡ outside.old.depot }
+    requires depot { (D.told outside.depot).contents ≡ no_contents }
+    requires outputs { HaveNoBytes (O.told outside.outputs) }
+    ensures { Ends (command_of (map string_bytes words.now))
+        (seen I.told O.told D.told outside) (seen I.told O.told D.told result.outside) result.status }
 {
     // That bytes say one job or one fault is why each status comes exactly where the files call for it.
     job_file_has_one_reading();
     match command_of(alloc, words) {
         Ok(command) => work(alloc, &command, outside),
-        Err(WordsFault::Usage) => refuse(alloc, &mut outside.outputs, &Fault::Usage),
-        Err(WordsFault::Memory) => refuse(alloc, &mut outside.outputs, &Fault::Memory),
+        Err(WordsFault::Usage) => refused(alloc, outside, &Fault::Usage),
+        Err(WordsFault::Memory) => refused(alloc, outside, &Fault::Memory),
     }
+}
+
+/// Ends a command for a fault, whose line it puts to standard error.
+pub(crate) fn refused<I: Inputs, O: Outputs, D: Depot>(
+    alloc: Global,
+    mut outside: Outside<I, O, D>,
+    fault: &Fault<'_>,
+) -> Done<I, O, D>
+    ensures status { result.status ≡ (refusal_of fault.now).status }
+    ensures line { TellsLine (O.told outside.outputs) (O.told result.outside.outputs) (fault_text fault.now) }
+    ensures inputs { I.told result.outside.inputs ≡ I.told outside.inputs }
+    ensures depot { D.told result.outside.depot ≡ D.told outside.depot }
+{
+    let status = refuse(alloc, &mut outside.outputs, fault);
+    Done { status, outside }
 }
 
 /// Puts the fault's line to standard error, and gives the fault's status.

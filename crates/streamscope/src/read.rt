@@ -3,13 +3,13 @@ ghost use Rattle.ss_outside.specs.Told.{KeepsInputs};
 ghost use Rattle.ss_report.specs.StateText as state_text;
 ghost use Rattle.streamscope.specs.Ends.{MayHave, Passes, StopsOrWants, Unread, WantsMemory};
 ghost use Rattle.streamscope.specs.Order as spec;
-ghost use Rattle.streamscope.specs.Order.{job_file, source_file};
+ghost use Rattle.streamscope.specs.Order.{job_file, schedule_file, source_file};
 ghost use Rattle.streamscope.specs.Refusal.{refusal_of};
 ghost use Rattle.streamscope.specs.Streams.{AreTextNames, IsSourceList};
 
 use ss_elem::Element;
 use ss_events::{EventsFault, Late, read_events};
-use ss_fail::Role;
+use ss_fail::{Act, Role, ScriptsFault, read_schedule};
 use ss_job::{Job, JobsFault, read_job};
 use ss_outside::{InputFault, Inputs};
 use ss_report::Fault;
@@ -89,6 +89,31 @@ pub(crate) fn read_event_file<'a, I: Inputs>(
     }
 }
 
+/// The acts on a job that a schedule says.
+pub(crate) fn read_schedule_file<'a, I: Inputs>(
+    alloc: Global,
+    inputs: &mut I,
+    job: &Job,
+    file: &'a str,
+) -> Result<Vec<Act>, Fault<'a>>
+    ensures acts { IfOk result (λ acts. Passes (I.told inputs.old) (I.told inputs.new)
+        (schedule_file job.now file.entry.now) acts.items) }
+    ensures fault { IfErr result (λ fault. StopsOrWants (I.told inputs.old) (I.told inputs.new)
+        (schedule_file job.now file.entry.now) (refusal_of fault)) }
+{
+    let bytes = match read_file(alloc, inputs, file) {
+        Ok(bytes) => bytes,
+        Err(fault) => return Err(fault),
+    };
+    // That a job has few roles is told with its graph.
+    let _ = job.graph();
+    match read_schedule(alloc, bytes.as_slice(), job.roles()) {
+        Ok(acts) => Ok(acts),
+        Err(ScriptsFault::At(fault)) => Err(Fault::Script { file, fault }),
+        Err(ScriptsFault::Memory) => Err(Fault::Memory),
+    }
+}
+
 /// The stream of this vertex is too long.
 pub(crate) fn too_long(job: &Job, v: u32) -> Fault<'_>
     ensures { refusal_of result ≡ spec.too_long job.now v }
@@ -100,7 +125,7 @@ pub(crate) fn too_long(job: &Job, v: u32) -> Fault<'_>
 }
 
 /// The name of a vertex, where there is one of this number.
-fn name_of(job: &Job, v: u32) -> &str
+pub(crate) fn name_of(job: &Job, v: u32) -> &str
     ensures { result.now ≡ state_text.name_of job.now.roles v }
 {
     // That a name is text is told with the graph.

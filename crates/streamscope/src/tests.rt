@@ -1,5 +1,11 @@
 //! What whole commands leave, over files in memory.
 
+ghost use Rattle.std.specs.Prelude.{◌≡◌, IfOk};
+ghost use Rattle.ss_outside.specs.Depot.{no_contents};
+ghost use Rattle.ss_outside.specs.MemDepot.{mem_depot_told};
+ghost use Rattle.ss_outside.specs.MemOutputs.{mem_outputs_told};
+ghost use Rattle.ss_vault.specs.Calls.{HaveNoBytes};
+
 mod checks;
 mod devices;
 mod documents;
@@ -9,6 +15,7 @@ mod events;
 mod joins;
 mod made;
 mod operators;
+mod plays;
 mod runs;
 mod windows;
 mod words;
@@ -55,8 +62,9 @@ const WHOLE: Left<'static> = Left {
 };
 
 /// Each name under which a test looks for bytes.
-const NAMES: [&str; 10] = [
-    "-", "!", "out.csv", "x.csv", "y.csv", "z.csv", "in.csv", "one.csv", "two.csv", "job.toml",
+const NAMES: [&str; 13] = [
+    "-", "!", "out.csv", "o.csv", "x.csv", "y.csv", "z.csv", "in.csv", "s.csv", "one.csv",
+    "two.csv", "job.toml", "s.txt",
 ];
 
 /// A command: its words, its files, the reads that are to fail, and the puts that are to fail, each with how
@@ -87,7 +95,9 @@ fn inputs_of(alloc: Global, files: &[(&str, &[u8])], reads: &[u64]) -> Result<Me
     Ok(inputs)
 }
 
-fn outputs_of(alloc: Global, puts: &[(u64, u64)]) -> Result<MemOutputs, Fail> {
+fn outputs_of(alloc: Global, puts: &[(u64, u64)]) -> Result<MemOutputs, Fail>
+    ensures { IfOk result (λ outputs. HaveNoBytes (mem_outputs_told outputs)) }
+{
     let mut outputs = MemOutputs::new(alloc);
     for (call, kept) in puts {
         outputs.fail(*call, *kept)?;
@@ -101,13 +111,36 @@ fn done(
     words: &[&str],
     inputs: MemInputs,
     outputs: MemOutputs,
-) -> Result<Done<MemInputs, MemOutputs, MemDepot>, Fail> {
+) -> Result<Done<MemInputs, MemOutputs, MemDepot>, Fail>
+    requires { HaveNoBytes (mem_outputs_told outputs) }
+{
+    done_over(alloc, words, inputs, outputs, MemDepot::new(alloc))
+}
+
+/// The same over this depot, which holds nothing.
+fn done_over(
+    alloc: Global,
+    words: &[&str],
+    inputs: MemInputs,
+    outputs: MemOutputs,
+    depot: MemDepot,
+) -> Result<Done<MemInputs, MemOutputs, MemDepot>, Fail>
+    requires outputs { HaveNoBytes (mem_outputs_told outputs) }
+    requires depot { (mem_depot_told depot).contents ≡ no_contents }
+{
     let outside = Outside {
         inputs,
         outputs,
-        depot: MemDepot::new(alloc),
+        depot,
     };
     Ok(perform(alloc, owned(alloc, words)?.as_slice(), outside))
+}
+
+/// Outputs with nothing put.
+fn no_outputs(alloc: Global) -> MemOutputs
+    ensures { HaveNoBytes (mem_outputs_told result) }
+{
+    MemOutputs::new(alloc)
 }
 
 /// The words, each as a text of its own.
@@ -216,7 +249,7 @@ fn check_refused(
     let line = format!(in alloc; "streamscope: job: {why}\n")?;
     let mut inputs = MemInputs::new(alloc);
     inputs.add("job.toml", job)?;
-    let done = done(alloc, words, inputs, MemOutputs::new(alloc))?;
+    let done = done(alloc, words, inputs, no_outputs(alloc))?;
     check_told(rt, why, &done, 3, "!", line.as_str());
     Ok(())
 }

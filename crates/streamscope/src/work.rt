@@ -1,38 +1,45 @@
 ghost use Rattle.std.specs.Prelude.{◌≡◌};
-ghost use Rattle.ss_words.specs.declared.words.Action.TheVariants.{Check};
+ghost use Rattle.ss_outside.specs.Depot.{no_contents};
+ghost use Rattle.ss_vault.specs.Calls.{HaveNoBytes};
 ghost use Rattle.ss_words.specs.Answers.{command_text};
-ghost use Rattle.streamscope.specs.Ends.{EndsBy, seen};
-ghost use Rattle.streamscope.specs.Order.{order_for, order_with};
+ghost use Rattle.streamscope.specs.Ends.{EndsBy};
+ghost use Rattle.streamscope.specs.Order.{last, order_for, puts};
+ghost use Rattle.streamscope.specs.Output.{job_lines};
+ghost use Rattle.streamscope.specs.Seen.{seen};
 
 use crate::check::check;
-use crate::outside::Outside;
-use crate::perform::refuse;
+use crate::closing::Closing;
+use crate::outside::{Done, Outside};
+use crate::perform::refused;
+use crate::play::play;
 use crate::read::read_job_file;
 use crate::run::run;
 use ss_job::Job;
 use ss_outside::{Depot, Inputs, Outputs, PutFault};
 use ss_report::Fault;
-use ss_words::{Action, Command};
+use ss_words::Command;
 use std::alloc::Global;
 
 /// Does the work of a command, and tells the fault where one stopped it.
 pub(crate) fn work<I: Inputs, O: Outputs, D: Depot>(
     alloc: Global,
     command: &Command<'_>,
-    outside: &mut Outside<I, O, D>,
-) -> u8
-    ensures ends { EndsBy (order_for (command_text command.now))
-        (seen I.told O.told outside.old) (seen I.told O.told outside.new) result }
-    ensures depot { outside.new.depot ≡ outside.old.depot }
+    mut outside: Outside<I, O, D>,
+) -> Done<I, O, D>
+    requires depot { (D.told outside.depot).contents ≡ no_contents }
+    requires outputs { HaveNoBytes (O.told outside.outputs) }
+    ensures { EndsBy (order_for (command_text command.now))
+        (seen I.told O.told D.told outside) (seen I.told O.told D.told result.outside) result.status }
 {
-    let job = match read_job_file(alloc, &mut outside.inputs, command.job) {
+    let job = match read_job_file(alloc, &mut outside.inputs, command.job()) {
         Ok(job) => job,
-        Err(fault) => return refuse(alloc, &mut outside.outputs, &fault),
+        Err(fault) => return refused(alloc, outside, &fault),
     };
-    match command.action {
-        Action::Check => show(alloc, &job, outside),
-        Action::Plain => run(alloc, Action::Plain, job, outside),
-        Action::Run => run(alloc, Action::Run, job, outside),
+    match command {
+        Command::Check { .. } => show(alloc, &job, outside),
+        Command::Plain { .. } => run(alloc, Closing::Nothing, job, outside),
+        Command::Run { .. } => run(alloc, Closing::Summary, job, outside),
+        Command::Play { schedule, .. } => play(alloc, job, schedule, outside),
     }
 }
 
@@ -40,15 +47,14 @@ pub(crate) fn work<I: Inputs, O: Outputs, D: Depot>(
 fn show<I: Inputs, O: Outputs, D: Depot>(
     alloc: Global,
     job: &Job,
-    outside: &mut Outside<I, O, D>,
-) -> u8
-    ensures ends { EndsBy (order_with Check job.now)
-        (seen I.told O.told outside.old) (seen I.told O.told outside.new) result }
-    ensures depot { outside.new.depot ≡ outside.old.depot }
+    mut outside: Outside<I, O, D>,
+) -> Done<I, O, D>
+    ensures { EndsBy (last (puts (job_lines job.now)))
+        (seen I.told O.told D.told outside) (seen I.told O.told D.told result.outside) result.status }
 {
     match check(alloc, &mut outside.outputs, job) {
-        Ok(()) => 0,
-        Err(PutFault::Failed) => refuse(alloc, &mut outside.outputs, &Fault::Output),
-        Err(PutFault::Memory) => refuse(alloc, &mut outside.outputs, &Fault::Memory),
+        Ok(()) => Done { status: 0, outside },
+        Err(PutFault::Failed) => refused(alloc, outside, &Fault::Output),
+        Err(PutFault::Memory) => refused(alloc, outside, &Fault::Memory),
     }
 }

@@ -1,35 +1,33 @@
-ghost use Rattle.std.specs.Prelude.{◌≢◌, ◌<◌, length};
+ghost use Rattle.std.specs.Prelude.{◌<◌, length};
 ghost use Rattle.ss_plan.specs.Plan.{lists_of};
-ghost use Rattle.ss_words.specs.declared.words.Action.TheVariants.{Check};
 ghost use Rattle.streamscope.specs.Output.{all_sink_puts, sink_puts};
 ghost use Rattle.streamscope.specs.Computed.{list_at, puts_with};
 ghost use Rattle.streamscope.specs.Puts.{Wrote, lines_to};
 
+use crate::closing::Closing;
 use crate::sinks::{list_at, sink_file};
 use crate::summary::write_summary;
 use ss_elem::{Element, LineBuf, line};
 use ss_job::Job;
 use ss_outside::{Outputs, PutFault};
-use ss_words::Action;
 use std::alloc::Global;
 
-/// Puts what an action puts of a job: the lines of each sink to its file, in order, and after a run the summary, unless
-/// a sink writes to standard output. `streams` has what each sink takes.
+/// Puts the lines of each sink of a job to its file, in order, and then what closes them. `streams` has what each sink
+/// takes.
 pub(crate) fn write_output<O: Outputs>(
     alloc: Global,
     outputs: &mut O,
-    action: Action,
+    closing: Closing,
     job: &Job,
     streams: &[Vec<Element>],
 ) -> Result<(), PutFault>
-    requires { action ≢ Check }
     ensures { Wrote (O.told outputs.old) (O.told outputs.new)
-        (puts_with action job.now (list_at (lists_of streams.now))) result }
+        (puts_with closing job.now (list_at (lists_of streams.now))) result }
 {
     match write_sinks(outputs, job, streams) {
-        Ok(()) => match action {
-            Action::Check | Action::Plain => Ok(()),
-            Action::Run => match write_summary(alloc, outputs, job, streams) {
+        Ok(()) => match closing {
+            Closing::Nothing => Ok(()),
+            Closing::Summary => match write_summary(alloc, outputs, job, streams) {
                 Ok(()) => Ok(()),
                 Err(fault) => Err(fault),
             },

@@ -1,4 +1,4 @@
-use super::{EVENTS, LINES, Left, RUN, check_done, check_told, done};
+use super::{EVENTS, LINES, Left, RUN, check_done, check_told, done, no_outputs};
 use crate::outside::Done;
 use ss_outside::{MemDepot, MemInputs, MemOutputs};
 use std::alloc::Global;
@@ -56,7 +56,7 @@ fn done_of_two(
     inputs.add("job.toml", TWO_SOURCES)?;
     inputs.add("one.csv", one)?;
     inputs.add("two.csv", two)?;
-    done(alloc, &RUN, inputs, MemOutputs::new(alloc))
+    done(alloc, &RUN, inputs, no_outputs(alloc))
 }
 
 /// Runs that job, and compares what it leaves: the line of a fault, and nothing else.

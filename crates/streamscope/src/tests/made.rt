@@ -1,5 +1,5 @@
-use super::{CHECK, RUN, check_refused, check_told, done};
-use ss_outside::{MemInputs, MemOutputs};
+use super::{CHECK, RUN, check_refused, check_told, done, no_outputs};
+use ss_outside::MemInputs;
 use std::alloc::Global;
 use std::test::Fail;
 
@@ -34,7 +34,7 @@ fn a_job_has_at_most_32_vertices(rt: HostRuntime) -> Result<(), Fail> {
     let told = format!(in alloc; "{lines}ok 32\n")?;
     let mut inputs = MemInputs::new(alloc);
     inputs.add("job.toml", job.as_bytes())?;
-    let done = done(alloc, &CHECK, inputs, MemOutputs::new(alloc))?;
+    let done = done(alloc, &CHECK, inputs, no_outputs(alloc))?;
     check_told(&rt, "32 vertices", &done, 0, "-", told.as_str());
     let job = job_of_sinks(alloc, 32)?;
     check_refused(&rt, alloc, &CHECK, job.as_bytes(), "too many vertices")

@@ -1,5 +1,5 @@
-use super::{Command, EVENTS, FILES, JOB, Left, WHOLE, check_done, check_left, done};
-use ss_outside::{MemInputs, MemOutputs};
+use super::{Command, EVENTS, FILES, JOB, Left, WHOLE, check_done, check_left, done, no_outputs};
+use ss_outside::MemInputs;
 use std::alloc::Global;
 use std::process::Abort;
 use std::test::Fail;
@@ -13,7 +13,7 @@ const REFUSED: Left<'static> = Left {
     texts: &[("!", USAGE)],
 };
 
-const WORDS: [&[&str]; 25] = [
+const WORDS: [&[&str]; 31] = [
     &[],
     &[""],
     &["run"],
@@ -32,6 +32,19 @@ const WORDS: [&[&str]; 25] = [
     &["run", "job.toml", "x"],
     &["run", "-x"],
     &["play", "job.toml"],
+    &["play", "job.toml", "--schedule"],
+    &["play", "job.toml", "--schedule="],
+    &[
+        "play",
+        "job.toml",
+        "--schedule",
+        "s.txt",
+        "--schedule",
+        "s.txt",
+    ],
+    &["play", "--schedule", "s.txt"],
+    &["run", "job.toml", "--schedule", "s.txt"],
+    &["plain", "--schedule=s.txt", "job.toml"],
     &["gen", "0"],
     &["run", "job.toml", "--workers", "9"],
     &["run", "job.toml", "--workers=2"],
@@ -67,7 +80,7 @@ fn check_named(
     let mut inputs = MemInputs::new(alloc);
     inputs.add(name, JOB)?;
     inputs.add("in.csv", EVENTS)?;
-    let done = done(alloc, words, inputs, MemOutputs::new(alloc))?;
+    let done = done(alloc, words, inputs, no_outputs(alloc))?;
     check_done(rt, name, &done, left);
     Ok(())
 }

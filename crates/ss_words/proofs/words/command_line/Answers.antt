@@ -12,6 +12,8 @@ returns c =
     let start_is = ap app_of_fields c.no_binary_name.ensures ∙ ap without_name c.new.ensures.app in
     let action = c.required_word-action.ensures in
     let subject = c.required_word-subject.ensures in
+    let schedule = c.option_with_value-schedule.ensures in
     let one_is = c.in_ok-arg.ensures.shape action.local ∙ ap₂ with_rule start_is action.rule in
-    IfOk-weaker c.arg-2.result _ _ (λ line added. added.shape subject.local ∙ ap₂ with_rule one_is subject.rule)
-    c.arg-2.ensures
+    let two_are = c.in_ok-arg-2.ensures.shape subject.local ∙ ap₂ with_rule one_is subject.rule in
+    IfOk-weaker c.arg-3.result _ _ (λ line added. added.shape schedule.local ∙ ap₂ with_rule two_are schedule.rule)
+    c.arg-3.ensures

@@ -1,59 +1,64 @@
-use Rattle.std.proofs.Common.{◌≡◌, None, Ok, Err, inl, inr, sym, refl, subst}
+use Rattle.std.proofs.Common.{Ok, Err, inl, inr, refl, subst}
 use Rattle.ss_plan.specs.Plan.{PlanText, lists_of}
 use Rattle.ss_report.specs.declared.fault.Fault.TheVariants.{Memory}
-use Rattle.streamscope.specs.Computed.{PutsStreams}
-use Rattle.streamscope.specs.Ends.{Seen, MayHave, seen, EndsBy, Stops}
-use Rattle.streamscope.specs.Order.{Order, order_with}
+use Rattle.streamscope.specs.Computed.{PutsStreams, output_with}
+use Rattle.streamscope.specs.Ends.{MayHave}
+use Rattle.streamscope.specs.Order.{with_streams}
 use Rattle.streamscope.specs.Refusal.{refusal_of}
-use Rattle.streamscope.proofs.Actions.{output_of, order-streams, streams_sources, streams_wanting, streams_put, streams_stop, are_source_lists}
+use Rattle.streamscope.specs.Seen.{seen}
+use Rattle.streamscope.proofs.Actions.{behind_sources, sources_stop, wanting, streams_put, streams_stop, are_source_lists}
 use Rattle.streamscope.proofs.Ends.{at_inputs, refused_at}
 use Rattle.streamscope.proofs.run.run.Goals as goal
 
-pub returns-in-Err-clause-ends : goal.returns-in-Err-clause-ends
-returns-in-Err-clause-ends g c =
-    let before = seen g.I.Inputs.told g.O.Outputs.told c.args.outside.now in
+pub returns-in-Err : goal.returns-in-Err
+returns-in-Err g c =
+    let before = seen g.I.Inputs.told g.O.Outputs.told g.D.Depot.told c.args.outside in
+    let after = seen g.I.Inputs.told g.O.Outputs.told g.D.Depot.told c.refused.result.outside in
     let job = c.args.job in
     let read = g.I.Inputs.told c.read_sources.new.inputs in
     let refusal = refusal_of c.in-Err.fault in
-    refused_at (order_with c.args.action job) before (at_inputs read before) (g.O.Outputs.told c.refuse.new.outputs) c.refuse.result refusal
-    (subst (λ (order : Order). Stops order before (at_inputs read before) refusal) (sym (order-streams c.args.action job c.requires))
-    (streams_sources job (output_of c.args.action) before read refusal c.in-Err.ensures.fault))
-    c.refuse.ensures.status c.refuse.ensures.line
+    refused_at (with_streams job (output_with c.args.closing)) before (at_inputs read before) after c.refused.result.status refusal
+    (sources_stop job (behind_sources job (output_with c.args.closing)) before read refusal c.in-Err.ensures.fault)
+    c.refused.ensures.status c.refused.ensures.line c.refused.ensures.inputs c.refused.ensures.depot
 
 pub of-requires : goal.of-requires
 of-requires g c =
     let (are, kept) = c.in-Ok.ensures.lists in
-    are_source_lists (MayHave (g.I.Inputs.told c.args.outside.now.inputs)) c.args.job (lists_of c.in-Ok.lists.items) are c.in-Ok.ensures.each
+    are_source_lists (MayHave (g.I.Inputs.told c.args.outside.inputs)) c.args.job (lists_of c.in-Ok.lists.items) are c.in-Ok.ensures.each
 
-pub returns-in-Err-Memory-clause-ends : goal.returns-in-Err-Memory-clause-ends
-returns-in-Err-Memory-clause-ends g c =
-    let before = seen g.I.Inputs.told g.O.Outputs.told c.args.outside.now in
+pub returns-in-Err-Memory : goal.returns-in-Err-Memory
+returns-in-Err-Memory g c =
+    let before = seen g.I.Inputs.told g.O.Outputs.told g.D.Depot.told c.args.outside in
+    let refused = c.refused-in-Err-Memory in
+    let after = seen g.I.Inputs.told g.O.Outputs.told g.D.Depot.told refused.result.outside in
     let read = g.I.Inputs.told c.read_sources.new.inputs in
     let (are, kept) = c.in-Ok.ensures.lists in
-    refused_at (order_with c.args.action c.args.job) before (at_inputs read before) (g.O.Outputs.told c.refuse-in-Err-Memory.new.outputs) c.refuse-in-Err-Memory.result (refusal_of Memory)
-    (streams_wanting (order_with c.args.action c.args.job) before read kept) c.refuse-in-Err-Memory.ensures.status c.refuse-in-Err-Memory.ensures.line
+    refused_at (with_streams c.args.job (output_with c.args.closing)) before (at_inputs read before) after refused.result.status (refusal_of Memory)
+    (wanting (with_streams c.args.job (output_with c.args.closing)) before read kept)
+    refused.ensures.status refused.ensures.line refused.ensures.inputs refused.ensures.depot
 
-pub returns-in-Ok-put_streams-clause-ends : goal.returns-in-Ok-put_streams-clause-ends
-returns-in-Ok-put_streams-clause-ends g c =
-    let before = seen g.I.Inputs.told g.O.Outputs.told c.args.outside.now in
+pub returns-in-Ok-put_streams : goal.returns-in-Ok-put_streams
+returns-in-Ok-put_streams g c =
+    let before = seen g.I.Inputs.told g.O.Outputs.told g.D.Depot.told c.args.outside in
     let read = g.I.Inputs.told c.read_sources.new.inputs in
     let put = g.O.Outputs.told c.put_streams.new.outputs in
     let (are, kept) = c.in-Ok.ensures.lists in
     inl (
       refl,
-      streams_put c.args.action c.args.job before read put (lists_of c.in-Ok.lists.items) c.requires are kept
-          (subst (λ (p : PlanText). PutsStreams c.args.action p before.outputs put (Ok tt)) c.in-Ok-of.ensures.plan c.in-Ok-put_streams.ensures),
+      streams_put c.args.closing c.args.job before read put (lists_of c.in-Ok.lists.items) are kept
+          (subst (λ (p : PlanText). PutsStreams c.args.closing p before.outputs put (Ok tt)) c.in-Ok-of.ensures.plan c.in-Ok-put_streams.ensures),
     )
 
-pub returns-clause-ends : goal.returns-clause-ends
-returns-clause-ends g c =
-    let before = seen g.I.Inputs.told g.O.Outputs.told c.args.outside.now in
+pub returns : goal.returns
+returns g c =
+    let before = seen g.I.Inputs.told g.O.Outputs.told g.D.Depot.told c.args.outside in
+    let refused = c.refused-in-Err-put_streams in
+    let after = seen g.I.Inputs.told g.O.Outputs.told g.D.Depot.told refused.result.outside in
     let read = g.I.Inputs.told c.read_sources.new.inputs in
     let put = g.O.Outputs.told c.put_streams.new.outputs in
-    let stopped : Seen = record { inputs = read; outputs = put } in
     let (are, kept) = c.in-Ok.ensures.lists in
     let fault = c.in-Err-put_streams.fault in
-    refused_at (order_with c.args.action c.args.job) before stopped (g.O.Outputs.told c.refuse-in-Err-put_streams.new.outputs) c.refuse-in-Err-put_streams.result (refusal_of fault)
-    (streams_stop c.args.action c.args.job before read put (lists_of c.in-Ok.lists.items) fault c.requires are kept
-    (subst (λ (p : PlanText). PutsStreams c.args.action p before.outputs put (Err fault)) c.in-Ok-of.ensures.plan c.in-Err-put_streams.ensures))
-    c.refuse-in-Err-put_streams.ensures.status c.refuse-in-Err-put_streams.ensures.line
+    refused_at (with_streams c.args.job (output_with c.args.closing)) before (record before { inputs = read; outputs = put }) after refused.result.status (refusal_of fault)
+    (streams_stop c.args.closing c.args.job before read put (lists_of c.in-Ok.lists.items) fault are kept
+    (subst (λ (p : PlanText). PutsStreams c.args.closing p before.outputs put (Err fault)) c.in-Ok-of.ensures.plan c.in-Err-put_streams.ensures))
+    refused.ensures.status refused.ensures.line refused.ensures.inputs refused.ensures.depot

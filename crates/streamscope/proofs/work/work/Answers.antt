@@ -1,36 +1,67 @@
+use Rattle.std.proofs.Common.{ℕ, List, sym, subst}
 use Rattle.ss_words.specs.Answers.{command_text}
-use Rattle.ss_words.specs.declared.words.Action.TheVariants.{Check, Plain, Run}
-use Rattle.streamscope.specs.Ends.{seen}
-use Rattle.streamscope.specs.Order.{job_file, order_with}
+use Rattle.ss_words.specs.Words.{job_of}
+use Rattle.ss_words.specs.declared.words.Command.{Command}
+use Rattle.streamscope.specs.Ends.{EndsBy, MayHave, StopsOrWants}
+use Rattle.streamscope.specs.Order.{Gives, job_file, order_with, order_for}
 use Rattle.streamscope.specs.Refusal.{refusal_of}
+use Rattle.streamscope.specs.Seen.{seen}
 use Rattle.streamscope.proofs.Actions.{work_ends}
 use Rattle.streamscope.proofs.Ends.{at_inputs, stops_here, refused_at}
 use Rattle.streamscope.proofs.work.work.Goals as goal
 
-pub returns-in-Err-clause-ends : goal.returns-in-Err-clause-ends
-returns-in-Err-clause-ends g c =
+pub returns-in-Err : goal.returns-in-Err
+returns-in-Err g c =
     let command = command_text c.args.command.now in
-    let before = seen g.I.Inputs.told g.O.Outputs.told c.args.outside.now in
+    let before = seen g.I.Inputs.told g.O.Outputs.told g.D.Depot.told c.args.outside in
+    let after = seen g.I.Inputs.told g.O.Outputs.told g.D.Depot.told c.refused.result.outside in
     let read = g.I.Inputs.told c.read_job_file.new.inputs in
     let refusal = refusal_of c.in-Err.fault in
-    refused_at _ before (at_inputs read before) (g.O.Outputs.told c.refuse.new.outputs) c.refuse.result refusal
-    (stops_here (job_file command.job) (λ job. order_with command.action job) before read refusal c.in-Err.ensures.fault)
-    c.refuse.ensures.status c.refuse.ensures.line
+    refused_at (order_for command) before (at_inputs read before) after c.refused.result.status refusal
+    (stops_here (job_file (job_of command)) (order_with command) before read refusal
+    (subst (λ (file : List ℕ). StopsOrWants before.inputs read (job_file file) refusal) c.job.ensures c.in-Err.ensures.fault))
+    c.refused.ensures.status c.refused.ensures.line c.refused.ensures.inputs c.refused.ensures.depot
 
-pub returns-in-Check-clause-ends : goal.returns-in-Check-clause-ends
-returns-in-Check-clause-ends g c =
+pub returns-in-Check : goal.returns-in-Check
+returns-in-Check g c =
+    let command = command_text c.args.command.now in
+    let before = seen g.I.Inputs.told g.O.Outputs.told g.D.Depot.told c.args.outside in
+    let after = seen g.I.Inputs.told g.O.Outputs.told g.D.Depot.told c.show.result.outside in
+    let read = g.I.Inputs.told c.read_job_file.new.inputs in
     let (gives, kept) = c.in-Ok.ensures.job in
-    work_ends (command_text c.args.command.now) c.in-Ok.job (seen g.I.Inputs.told g.O.Outputs.told c.args.outside.now) (seen g.I.Inputs.told g.O.Outputs.told c.show.new.outside)
-    (g.I.Inputs.told c.read_job_file.new.inputs) c.show.result Check c.in-Check.is gives kept c.show.ensures.ends
+    work_ends command c.in-Ok.job before after read c.show.result.status
+    (subst (λ (file : List ℕ). Gives (MayHave before.inputs) (job_file file) c.in-Ok.job) c.job.ensures gives) kept
+    (subst (λ (x : Command). EndsBy (order_with (command_text x) c.in-Ok.job) (at_inputs read before) after c.show.result.status) (sym c.in-Check.is) c.show.ensures)
 
-pub returns-in-Plain-clause-ends : goal.returns-in-Plain-clause-ends
-returns-in-Plain-clause-ends g c =
+pub returns-in-Plain : goal.returns-in-Plain
+returns-in-Plain g c =
+    let command = command_text c.args.command.now in
+    let before = seen g.I.Inputs.told g.O.Outputs.told g.D.Depot.told c.args.outside in
+    let after = seen g.I.Inputs.told g.O.Outputs.told g.D.Depot.told c.run.result.outside in
+    let read = g.I.Inputs.told c.read_job_file.new.inputs in
     let (gives, kept) = c.in-Ok.ensures.job in
-    work_ends (command_text c.args.command.now) c.in-Ok.job (seen g.I.Inputs.told g.O.Outputs.told c.args.outside.now) (seen g.I.Inputs.told g.O.Outputs.told c.run.new.outside)
-    (g.I.Inputs.told c.read_job_file.new.inputs) c.run.result Plain c.in-Plain.is gives kept c.run.ensures.ends
+    work_ends command c.in-Ok.job before after read c.run.result.status
+    (subst (λ (file : List ℕ). Gives (MayHave before.inputs) (job_file file) c.in-Ok.job) c.job.ensures gives) kept
+    (subst (λ (x : Command). EndsBy (order_with (command_text x) c.in-Ok.job) (at_inputs read before) after c.run.result.status) (sym c.in-Plain.is) c.run.ensures)
 
-pub returns-in-Run-clause-ends : goal.returns-in-Run-clause-ends
-returns-in-Run-clause-ends g c =
+pub returns-in-Run : goal.returns-in-Run
+returns-in-Run g c =
+    let command = command_text c.args.command.now in
+    let before = seen g.I.Inputs.told g.O.Outputs.told g.D.Depot.told c.args.outside in
+    let after = seen g.I.Inputs.told g.O.Outputs.told g.D.Depot.told c.run-in-Run.result.outside in
+    let read = g.I.Inputs.told c.read_job_file.new.inputs in
     let (gives, kept) = c.in-Ok.ensures.job in
-    work_ends (command_text c.args.command.now) c.in-Ok.job (seen g.I.Inputs.told g.O.Outputs.told c.args.outside.now) (seen g.I.Inputs.told g.O.Outputs.told c.run-in-Run.new.outside)
-    (g.I.Inputs.told c.read_job_file.new.inputs) c.run-in-Run.result Run c.in-Run.is gives kept c.run-in-Run.ensures.ends
+    work_ends command c.in-Ok.job before after read c.run-in-Run.result.status
+    (subst (λ (file : List ℕ). Gives (MayHave before.inputs) (job_file file) c.in-Ok.job) c.job.ensures gives) kept
+    (subst (λ (x : Command). EndsBy (order_with (command_text x) c.in-Ok.job) (at_inputs read before) after c.run-in-Run.result.status) (sym c.in-Run.is) c.run-in-Run.ensures)
+
+pub returns-in-Play : goal.returns-in-Play
+returns-in-Play g c =
+    let command = command_text c.args.command.now in
+    let before = seen g.I.Inputs.told g.O.Outputs.told g.D.Depot.told c.args.outside in
+    let after = seen g.I.Inputs.told g.O.Outputs.told g.D.Depot.told c.play.result.outside in
+    let read = g.I.Inputs.told c.read_job_file.new.inputs in
+    let (gives, kept) = c.in-Ok.ensures.job in
+    work_ends command c.in-Ok.job before after read c.play.result.status
+    (subst (λ (file : List ℕ). Gives (MayHave before.inputs) (job_file file) c.in-Ok.job) c.job.ensures gives) kept
+    (subst (λ (x : Command). EndsBy (order_with (command_text x) c.in-Ok.job) (at_inputs read before) after c.play.result.status) (sym c.in-Play.is) c.play.ensures)

@@ -1,0 +1,142 @@
+ghost use Rattle.std.specs.Prelude.{◌≡◌, All, OnErr, OnOk, [], ◌∷◌, codes, get_or, length};
+ghost use Rattle.std.specs.Arc.{arc_value};
+ghost use Rattle.ss_engine.specs.Applies.{MayApply};
+ghost use Rattle.ss_outside.specs.Depot.{no_contents};
+ghost use Rattle.ss_play.specs.Releasing.{ReleasesAll};
+ghost use Rattle.ss_vault.specs.Calls.{HaveNoBytes};
+ghost use Rattle.streamscope.specs.Ends.{EndsBy};
+ghost use Rattle.streamscope.specs.Order as order;
+ghost use Rattle.streamscope.specs.Order.{last, with_acts};
+ghost use Rattle.streamscope.specs.Playing.{stop_told};
+ghost use Rattle.streamscope.specs.Puts.{Wrote, put_of};
+ghost use Rattle.streamscope.specs.Refusal.{refusal_of};
+ghost use Rattle.streamscope.specs.Seen.{seen};
+
+use crate::outside::{Done, Outside};
+use crate::perform::refused;
+use crate::read::{name_of, read_schedule_file, too_long};
+use crate::sources::read_sources;
+use ss_fail::Act;
+use ss_job::Job;
+use ss_outside::{Depot, Inputs, Outputs, PutFault};
+use ss_plan::{Plan, PlanFault};
+use ss_play::{PlayFault, Report, play_acts, release_all, schedules_may_apply};
+use ss_report::Fault;
+use ss_vault::plan_facts;
+use std::alloc::Global;
+use std::sync::Arc;
+
+/// Reads a job's sources, in order, and a schedule, and makes its acts, one behind the other. Then the report goes to
+/// standard output, and what the job needs no more of its sources' files is released. Tells the fault where one stops
+/// it.
+pub(crate) fn play<I: Inputs, O: Outputs, D: Depot>(
+    alloc: Global,
+    job: Job,
+    schedule: &str,
+    mut outside: Outside<I, O, D>,
+) -> Done<I, O, D>
+    requires depot { (D.told outside.depot).contents ≡ no_contents }
+    requires outputs { HaveNoBytes (O.told outside.outputs) }
+    ensures { EndsBy (with_acts job schedule.now)
+        (seen I.told O.told D.told outside) (seen I.told O.told D.told result.outside) result.status }
+{
+    // Why the acts that are read can be made.
+    schedules_may_apply();
+    let lists = match read_sources(alloc, &mut outside.inputs, &job) {
+        Ok(lists) => lists,
+        Err(fault) => return refused(alloc, outside, &fault),
+    };
+    let acts = match read_schedule_file(alloc, &mut outside.inputs, &job, schedule) {
+        Ok(acts) => acts,
+        Err(fault) => return refused(alloc, outside, &fault),
+    };
+    let plan = match Plan::of(job, lists) {
+        Ok(plan) => plan,
+        // Each list was measured when it was read.
+        Err(PlanFault::Full { .. }) => unreachable!(),
+        Err(PlanFault::Memory) => return refused(alloc, outside, &Fault::Memory),
+    };
+    // What every plan keeps.
+    let _ = plan.max_elements();
+    match Arc::new(alloc, plan) {
+        Ok(plan) => make_acts(alloc, plan, acts.as_slice(), outside),
+        Err(_) => refused(alloc, outside, &Fault::Memory),
+    }
+}
+
+/// Makes acts on a plan, and tells of them, or of the fault that stops one.
+fn make_acts<I: Inputs, O: Outputs, D: Depot>(
+    alloc: Global,
+    plan: Arc<Plan>,
+    acts: &[Act],
+    outside: Outside<I, O, D>,
+) -> Done<I, O, D>
+    requires depot { (D.told outside.depot).contents ≡ no_contents }
+    requires outputs { HaveNoBytes (O.told outside.outputs) }
+    requires acts { All (MayApply (arc_value plan)) acts.now }
+    ensures { EndsBy (last (order.acts (arc_value plan) acts.now))
+        (seen I.told O.told D.told outside) (seen I.told O.told D.told result.outside) result.status }
+{
+    // That there is a mark for each vertex is told with the plan's numbers.
+    plan_facts(&plan);
+    let Ok(shared) = Arc::try_clone(&plan) else {
+        return refused(alloc, outside, &Fault::Memory);
+    };
+    let played = play_acts(alloc, shared, acts, outside.outputs, outside.depot);
+    let mut outside = Outside {
+        inputs: outside.inputs,
+        outputs: played.outputs,
+        depot: played.depot,
+    };
+    match played.answer {
+        Ok(report) => match put_report(
+            &mut outside.inputs,
+            &mut outside.outputs,
+            plan.job(),
+            &report,
+        ) {
+            Ok(()) => Done { status: 0, outside },
+            Err(PutFault::Failed) => refused(alloc, outside, &Fault::Output),
+            Err(PutFault::Memory) => refused(alloc, outside, &Fault::Memory),
+        },
+        Err(stop) => refused(alloc, outside, &fault_of(plan.job(), stop)),
+    }
+}
+
+/// Puts a report to standard output, and then releases what the job needs no more of its sources' files.
+fn put_report<I: Inputs, O: Outputs>(
+    inputs: &mut I,
+    outputs: &mut O,
+    job: &Job,
+    report: &Report,
+) -> Result<(), PutFault>
+    requires { length report.now.marks.items ≡ length job.now.vertices }
+    ensures wrote { Wrote (O.told outputs.old) (O.told outputs.new)
+        (put_of (codes "-") report.now.text.items ∷ []) result }
+    ensures released { OnOk result (ReleasesAll job.now (λ v. get_or report.now.marks.items v 0)
+        (I.told inputs.old) (I.told inputs.new)) }
+    ensures kept { OnErr result (I.told inputs.new ≡ I.told inputs.old) }
+{
+    match outputs.put("-", report.text.as_slice()) {
+        Ok(()) => (),
+        Err(fault) => return Err(fault),
+    }
+    release_all(inputs, job, report.marks.as_slice());
+    Ok(())
+}
+
+/// How what stopped a job is told.
+fn fault_of(job: &Job, stop: PlayFault) -> Fault<'_>
+    ensures { refusal_of result ≡ stop_told job.now stop }
+{
+    match stop {
+        PlayFault::Store => Fault::Store,
+        PlayFault::Output => Fault::Output,
+        PlayFault::Full { v } => too_long(job, v),
+        PlayFault::Memory => Fault::Memory,
+        PlayFault::Damaged { v, n } => Fault::Damaged {
+            name: name_of(job, v),
+            n,
+        },
+    }
+}
