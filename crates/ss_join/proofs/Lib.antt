@@ -1,3 +1,10 @@
+pub mod Numbers
+pub mod Places
+pub mod Ends
+pub mod Holding
+pub mod Listings
+pub mod Joining
+pub mod Keys
 pub mod RowReads
 pub mod Spellings
 pub mod ReadAgain

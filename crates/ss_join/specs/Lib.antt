@@ -1,3 +1,4 @@
+pub mod Held
 pub mod States
 pub mod ImageTests
 pub mod ImageLaws

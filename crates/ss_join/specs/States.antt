@@ -1,5 +1,6 @@
 -- What a join is at a moment.
-use Rattle.std.specs.Prelude.{◌≡◌, ℕ, ◌==◌, if◌then◌else◌, List, [], ◌∷◌, ◌++◌, length, map, slice_index, Some}
+use Rattle.std.specs.Prelude.{◌≡◌, ℕ, ◌==◌, if◌then◌else◌, List, [], ◌∷◌, ◌++◌, length, map, slice_index, nat_eq, Some}
+use Rattle.std.specs.Set.{distinct_count}
 use Rattle.ss_elem.specs.Validity.{next_bound}
 use Rattle.ss_elem.specs.declared.element.Event.{Event}
 use Rattle.ss_elem.specs.declared.element.Element.{Element}
@@ -76,3 +77,11 @@ joined_elements input row earlier = map (λ joined. Row joined) (join_rows input
 -- the same, where the earlier rows are those that are remembered
 abbrev pub given_at : ℕ → Event → Sides → List Element
 given_at input row sides = joined_elements input row (other_side input sides)
+
+-- the keys of rows
+abbrev pub row_keys : List Event → List ℕ
+row_keys rows = map (λ row. row.key) rows
+
+-- how many different keys rows have
+abbrev pub key_count : List Event → ℕ
+key_count rows = distinct_count nat_eq (row_keys rows)

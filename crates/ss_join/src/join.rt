@@ -1,13 +1,15 @@
-ghost use Rattle.std.specs.Prelude.{◌≡◌, ◌+◌, ◌^◌, ◌<◌, ◌≤◌, ◌++◌, [], length, OnOk, OnErr, IfOk, IfErr, Ok};
+ghost use Rattle.std.specs.Prelude.{◌≡◌, ◌+◌, ◌^◌, ◌<◌, ◌≤◌, ◌++◌, [], ◌∷◌, length, OnOk, OnErr, IfOk, IfErr, Ok};
 ghost use Rattle.ss_image.specs.Images.{join_image};
 ghost use Rattle.ss_image.specs.Faults.{Fails};
 ghost use Rattle.ss_join.specs.ImageTests.{image_read};
 ghost use Rattle.ss_join.specs.States.{StandsAfter, StepsFromAll, CountsGiven, with_row, without_ended, given_at};
+ghost use Rattle.ss_join.specs.States.{joined_elements, key_count};
+ghost use Rattle.ss_meaning.specs.Entries.{rows_ending_above};
 
 use crate::image_reader::read_image;
 use crate::image_writer::put_image;
-use crate::pairs::count;
-use crate::side::{forget, take_row};
+use crate::pairs::{count, give};
+use crate::side::Side;
 use ss_elem::{Element, Event, Out};
 use ss_image::ImageFault;
 use ss_meaning::join_sides_follow;
@@ -20,8 +22,8 @@ use std::marker::Model;
 /// It remembers of each input the rows that end above the other input's bound, in the order of their arrival.
 #[derive(Drop)]
 pub struct Join {
-    left: Vec<Event>,
-    right: Vec<Event>,
+    left: Side,
+    right: Side,
 }
 
 impl Model for Join {
@@ -29,7 +31,7 @@ impl Model for Join {
 
     ghost Value = { Sides };
 
-    ghost view = { λ j. record { left = j.left.items; right = j.right.items } };
+    ghost view = { λ j. record { left = j.left; right = j.right } };
 }
 
 impl Join {
@@ -38,8 +40,8 @@ impl Join {
         ensures { StandsAfter result [] }
     {
         Join {
-            left: Vec::new(alloc),
-            right: Vec::new(alloc),
+            left: Side::new(alloc),
+            right: Side::new(alloc),
         }
     }
 
@@ -89,6 +91,13 @@ impl Join {
         self.left.len() as u64 + self.right.len() as u64
     }
 
+    /// How many different keys the remembered rows have.
+    pub fn keys(&self) -> u64
+        ensures { result ≡ key_count (self.now.left ++ self.now.right) }
+    {
+        self.left.keys_beside(&self.right) + self.right.keys()
+    }
+
     /// Appends the image of the rows that the join remembers.
     ///
     /// An error is want of memory.
@@ -97,7 +106,9 @@ impl Join {
         ensures ok { OnOk result (out.new.items ≡ out.old.items ++ join_image self.now.left self.now.right) }
         ensures err { OnErr result (out.new.items ≡ out.old.items) }
     {
-        put_image(out, &self.left, &self.right)
+        let left = self.left.to_rows()?;
+        let right = self.right.to_rows()?;
+        put_image(out, &left, &right)
     }
 
     /// The join whose image these bytes are, where the inputs have these bounds.
@@ -106,7 +117,10 @@ impl Join {
         ensures fault { IfErr result (λ fault. Fails fault (image_read bounds bytes.now)) }
     {
         let (left, right) = read_image(alloc, bounds, bytes)?;
-        Ok(Join { left, right })
+        Ok(Join {
+            left: Side::of_rows(alloc, &left)?,
+            right: Side::of_rows(alloc, &right)?,
+        })
     }
 
     /// How many remembered rows of the other input a row of this one joins.
@@ -151,10 +165,34 @@ impl Join {
     {
         out.reserve(1)?;
         if input == 0 {
-            forget(&mut self.right, bounds[0]);
+            self.right.forget(bounds[0]);
         } else {
-            forget(&mut self.left, bounds[1]);
+            self.left.forget(bounds[1]);
         }
         Ok(())
     }
+}
+
+/// Gives what a row of this input joins of the other side, and keeps it on its own side where it ends above `bound`,
+/// the bound of the other input.
+fn take_row(
+    input: u32,
+    row: &Event,
+    own: &mut Side,
+    other: &Side,
+    bound: u64,
+    out: &mut Out,
+) -> Result<(), AllocError>
+    ensures kept { OnOk result (own.new ≡ own.old ++ rows_ending_above bound (row.now ∷ [])) }
+    ensures given { OnOk result (out.new.elements ≡ out.old.elements ++ joined_elements input row.now other.now) }
+    ensures place { OnOk result (1 ≤ out.new.spare) }
+    ensures err { OnErr result (own.new ≡ own.old) }
+    ensures err_out { OnErr result (out.new.elements ≡ out.old.elements) }
+{
+    out.reserve(other.len() as u64 + 1)?;
+    if row.end > bound {
+        own.push(row)?;
+    }
+    give(input, row, other, out);
+    Ok(())
 }

@@ -1,6 +1,7 @@
 //! Temporal joins, one element at a time.
 #![tactic(auto)]
 
+mod held;
 mod image_laws;
 mod image_reader;
 mod image_writer;

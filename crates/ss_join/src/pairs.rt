@@ -2,6 +2,7 @@ ghost use Rattle.std.specs.Prelude.{◌≡◌, ◌+◌, ◌≤◌, ◌<◌, ◌^
 ghost use Rattle.ss_join.specs.States.{joined_elements};
 ghost use Rattle.ss_meaning.specs.Join.{joined, joined_from, matches};
 
+use crate::side::Side;
 use ss_elem::{Element, Event, Out};
 
 /// Whether two rows have one key and a time in common.
@@ -36,12 +37,12 @@ fn joined_from(input: u32, x: &Event, y: &Event) -> Event
 }
 
 /// Appends what a row of this input gives with rows of the other one, in their order, and leaves a place.
-pub(crate) fn give(input: u32, row: &Event, others: &[Event], out: &mut Out)
+pub(crate) fn give(input: u32, row: &Event, others: &Side, out: &mut Out)
     requires { length others.now + 1 ≤ out.old.spare }
     ensures elements { out.new.elements ≡ out.old.elements ++ joined_elements input row.now others.now }
     ensures place { 1 ≤ out.new.spare }
 {
-    for other in others {
+    for (_, other) in others.of_key(&row.key) {
         if matches(row, other) {
             out.push(Element::Row(joined_from(input, row, other)));
         }
@@ -49,16 +50,15 @@ pub(crate) fn give(input: u32, row: &Event, others: &[Event], out: &mut Out)
 }
 
 /// How many of these rows of the other input a row joins.
-pub(crate) fn count(row: &Event, others: &[Event]) -> u64
+pub(crate) fn count(row: &Event, others: &Side) -> u64
     ensures given { (input : ℕ) → result ≡ length (joined_elements input row.now others.now) }
     ensures few { result < 2 ^ 63 }
 {
-    matching(row, others) as u64
-}
-
-fn matching(row: &Event, others: &[Event]) -> usize
-    ensures count { result ≡ count_by (matches row.now) others.now }
-    ensures few { result ≤ length others.now }
-{
-    others.iter().filter(|other| matches(row, other)).count()
+    let mut count = 0;
+    for (_, other) in others.of_key(&row.key) {
+        if matches(row, other) {
+            count += 1;
+        }
+    }
+    count
 }

@@ -10,3 +10,9 @@ mod given;
 mod harness;
 #[cfg(test)]
 mod images;
+#[cfg(test)]
+mod keys;
+#[cfg(test)]
+mod memory;
+#[cfg(test)]
+mod order;

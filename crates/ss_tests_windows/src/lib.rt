@@ -11,6 +11,8 @@ mod harness;
 #[cfg(test)]
 mod images;
 #[cfg(test)]
+mod memory;
+#[cfg(test)]
 mod operators;
 #[cfg(test)]
 mod panes;

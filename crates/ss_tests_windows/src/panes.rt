@@ -1,5 +1,7 @@
-use crate::harness::{SUMS_OF_20, elements_of, new_window, take};
+use crate::harness::{SUMS_OF_20, Settings, elements_of, lines_of, new_window, take};
 use ss_elem::{Bound, Out};
+use ss_expr::{Agg, Field};
+use std::alloc::Global;
 use std::test::Fail;
 
 #[test]
@@ -27,5 +29,53 @@ fn panes_are_the_ends_above_low_with_a_row(rt: HostRuntime) -> Result<(), Fail> 
         take(&rt, &mut window, Bound::ZERO, open, &mut out)?;
         assert!(rt; window.panes() == panes && window.held() == held, "{text}");
     }
+    Ok(())
+}
+
+/// A row of each of a thousand keys, from k000 to k999, which all start at 0. The keys stand in the order in which 7
+/// steps through them.
+fn rows_of_many_keys(alloc: Global) -> Result<String, Fail> {
+    let mut text = String::new(alloc);
+    for number in 0..1000_u32 {
+        let key = number.saturating_mul(7) % 1000;
+        let row = format!(in alloc; "event,0,1,k{key:03},{key},0\n")?;
+        text.push_str(&row)?;
+    }
+    Ok(text)
+}
+
+/// What the window of 64 ends from 1 on gives for them: at each end a row of each key, in the order of the keys.
+fn rows_of_each_end(alloc: Global) -> Result<String, Fail> {
+    let mut text = String::new(alloc);
+    for end in 1..65_u32 {
+        let next = end.saturating_add(1);
+        for key in 0..1000_u32 {
+            let row = format!(in alloc; "event,{end},{next},k{key:03},{key},1\n")?;
+            text.push_str(&row)?;
+        }
+    }
+    Ok(text)
+}
+
+#[test]
+fn a_thousand_keys_stand_in_64_panes(rt: HostRuntime) -> Result<(), Fail> {
+    let settings = Settings {
+        size: 64,
+        hop: 1,
+        agg: Agg::Sum,
+        of: Field::A,
+    };
+    let text = rows_of_many_keys(rt.alloc())?;
+    let elements = elements_of(rt.alloc(), &text)?;
+    let mut window = new_window(&rt, rt.alloc(), settings);
+    let mut out = Out::new(rt.alloc());
+    let (open, end) = elements.split_at(elements.len().saturating_sub(1));
+    let bound = take(&rt, &mut window, Bound::ZERO, open, &mut out)?;
+    assert!(rt; window.panes() == 64 && window.held() == 64_000);
+    take(&rt, &mut window, bound, end, &mut out)?;
+    assert!(rt; window.panes() == 0 && window.held() == 0);
+    let lines = lines_of(rt.alloc(), &out)?;
+    let rows = rows_of_each_end(rt.alloc())?;
+    assert!(rt; lines.as_slice() == rows.as_bytes());
     Ok(())
 }
