@@ -39,20 +39,6 @@ act_word word =
     else (if bytes_eq word (codes "trim") then Some (OfStream Trim)
     else (if bytes_eq word (codes "pass") then Some Pass else None))))))))))
 
--- whether the act can be made: those of collection can't yet
-abbrev pub is_built : ActWord → Bool
-is_built (OfReplica word) = true
-is_built (OfStream Lose) = true
-is_built (OfStream Collect) = false
-is_built (OfStream Trim) = false
-is_built Flush = true
-is_built Take = true
-is_built Pass = false
-
-abbrev pub built_word : Option ActWord → Result ActWord ScriptWhy
-built_word None = Err BadWord
-built_word (Some word) = if is_built word then Ok word else Err BadWord
-
 -- a sink is wanted, or a vertex with a stream
 abbrev pub suits : Bool → Kind → Bool
 suits true kind = is_sink kind
@@ -128,7 +114,7 @@ act_of Pass roles (x ∷ others) = Err BadCount
 abbrev pub act_line : List Role → List (List ℕ) → Result Act ScriptWhy
 act_line roles [] = Err BadWord
 act_line roles (first ∷ others) = do
-  word ← built_word (act_word first)
+  word ← ok_or (act_word first) BadWord
   act_of word roles others
 
 -- the acts that follow a write

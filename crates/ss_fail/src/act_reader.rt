@@ -6,7 +6,7 @@ use crate::act::Act;
 use crate::decimal::number_below;
 use crate::fault::ScriptWhy;
 use crate::role::Role;
-use crate::word::{ActWord, ReplicaWord, StreamWord, act_word, is_built};
+use crate::word::{ActWord, ReplicaWord, StreamWord, act_word};
 use ss_water::Kind;
 
 /// The act of a schedule's line with these words.
@@ -17,24 +17,8 @@ pub(crate) fn act_line(words: &[&[u8]], roles: &[Role]) -> Result<Act, ScriptWhy
     match words {
         [] => Err(ScriptWhy::BadWord),
         [first, others @ ..] => {
-            let word = built_word(first)?;
+            let word = act_word(first).ok_or(ScriptWhy::BadWord)?;
             act_of(word, others, roles)
-        }
-    }
-}
-
-/// The word, where its act can be made.
-fn built_word(word: &[u8]) -> Result<ActWord, ScriptWhy>
-    ensures { result ≡ spec.built_word (spec.act_word word.now) }
-{
-    match act_word(word) {
-        None => Err(ScriptWhy::BadWord),
-        Some(word) => {
-            if is_built(word) {
-                Ok(word)
-            } else {
-                Err(ScriptWhy::BadWord)
-            }
         }
     }
 }

@@ -1,5 +1,5 @@
 ghost use Rattle.std.specs.Prelude.{◌≡◌};
-ghost use Rattle.ss_fail.specs.Acts.{act_word, is_built};
+ghost use Rattle.ss_fail.specs.Acts.{act_word};
 
 /// A word for what a replica does.
 #[derive(Clone, Copy, Debug, PartialEq, Eq)]
@@ -57,16 +57,5 @@ pub(crate) fn act_word(word: &[u8]) -> Option<ActWord>
         Some(ActWord::Pass)
     } else {
         None
-    }
-}
-
-/// Whether the act can be made: those of collection can't yet.
-pub(crate) fn is_built(word: ActWord) -> bool
-    ensures { result ≡ is_built word }
-{
-    match word {
-        ActWord::OfStream(StreamWord::Collect | StreamWord::Trim) | ActWord::Pass => false,
-        ActWord::OfReplica(_) | ActWord::OfStream(StreamWord::Lose) => true,
-        ActWord::Flush | ActWord::Take => true,
     }
 }

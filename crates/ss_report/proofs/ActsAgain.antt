@@ -86,9 +86,15 @@ says_act roles (Take k) named can =
     says_name roles (codes "take ") (codes "take") k (Take k) named can.0
     (record { splits = λ rest. refl; no_comment = λ rest. refl; in_line = refl; some = omega arith })
     (ap (λ a. a >>= (λ k. Ok (Take k))) (vertex_again true roles k named can))
-says_act roles (Collect v) named can = absurd can
-says_act roles (Trim v) named can = absurd can
-says_act roles Pass named can = absurd can
+says_act roles (Collect v) named can =
+    says_name roles (codes "collect ") (codes "collect") v (Collect v) named can.0
+    (record { splits = λ rest. refl; no_comment = λ rest. refl; in_line = refl; some = omega arith })
+    (ap (λ a. a >>= (λ v. Ok (Collect v))) (vertex_again false roles v named can))
+says_act roles (Trim v) named can =
+    says_name roles (codes "trim ") (codes "trim") v (Trim v) named can.0
+    (record { splits = λ rest. refl; no_comment = λ rest. refl; in_line = refl; some = omega arith })
+    (ap (λ a. a >>= (λ v. Ok (Trim v))) (vertex_again false roles v named can))
+says_act roles Pass named can = record { in_line = refl; some = omega arith; said = λ number. refl; is = refl }
 
 pub act_again : (roles : List Role) (act : Act) → HasNames roles → CanBeSaid roles act → acts_of roles (act_text roles act) ≡ Ok (act ∷ [])
 unfolding acts_of

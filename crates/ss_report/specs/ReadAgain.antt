@@ -49,7 +49,7 @@ IsVertexOf sink roles v =
 abbrev pub IsReplicaOf : List Role → ℕ → ℕ → Type 0
 IsReplicaOf roles v r = IsVertexOf false roles v × (r < replicas_of roles v) × (r < 2 ^ 32)
 
--- an act that can be made without collection, of a vertex and a replica that are there
+-- an act of a vertex and a replica that are there
 abbrev pub CanBeSaid : List Role → Act → Type 0
 CanBeSaid roles (Read v r) = IsReplicaOf roles v r
 CanBeSaid roles (Write v r) = IsReplicaOf roles v r
@@ -59,9 +59,9 @@ CanBeSaid roles (Load v r) = IsReplicaOf roles v r
 CanBeSaid roles (Lose v) = IsVertexOf false roles v
 CanBeSaid roles (Flush v count) = IsVertexOf false roles v × (1 ≤ count) × (count ≤ 64)
 CanBeSaid roles (Take k) = IsVertexOf true roles k
-CanBeSaid roles (Collect v) = ⊥
-CanBeSaid roles (Trim v) = ⊥
-CanBeSaid roles Pass = ⊥
+CanBeSaid roles (Collect v) = IsVertexOf false roles v
+CanBeSaid roles (Trim v) = IsVertexOf false roles v
+CanBeSaid roles Pass = Unit {0}
 
 -- acts as a schedule writes them, each before a newline
 abbrev pub schedule_text : List Role → List Act → List ℕ

@@ -1,7 +1,22 @@
-use ss_words::{Command, WordsFault, command_of};
+use ss_words::{Command, RunOptions, WordsFault, command_of};
 use std::alloc::{AllocError, Global};
 use std::process::Abort;
 use std::test::Fail;
+
+/// How a job is run where no option is given.
+const NO_OPTIONS: RunOptions<'static> = RunOptions {
+    failures: None,
+    trace: None,
+    workers: None,
+};
+
+/// A run of a job without an option.
+fn run(job: &str) -> Command<'_> {
+    Command::Run {
+        job,
+        run: NO_OPTIONS,
+    }
+}
 
 /// Words as the program gets them.
 fn owned(alloc: Global, words: &[&str]) -> Result<Vec<String>, AllocError> {
@@ -33,9 +48,9 @@ fn an_action_and_a_file_name_are_a_command(rt: HostRuntime) -> Result<(), Fail> 
     let cases: [(&[&str], Command<'_>); 5] = [
         (&["check", "job.toml"], Command::Check { job }),
         (&["plain", "job.toml"], Command::Plain { job }),
-        (&["run", "job.toml"], Command::Run { job }),
-        (&["run", "--", "-x"], Command::Run { job: "-x" }),
-        (&["run", "-"], Command::Run { job: "-" }),
+        (&["run", "job.toml"], run(job)),
+        (&["run", "--", "-x"], run("-x")),
+        (&["run", "-"], run("-")),
     ];
     for (given, command) in cases {
         check_command(&rt, rt.alloc(), given, command)?;
@@ -93,7 +108,7 @@ fn names_have_at_most_200_bytes(rt: HostRuntime) -> Result<(), Fail> {
     let most = most.as_str();
     let more = "j".repeat(alloc, 201)?;
     let more = more.as_str();
-    check_command(&rt, alloc, &["run", most], Command::Run { job: most })?;
+    check_command(&rt, alloc, &["run", most], run(most))?;
     let played = Command::Play {
         job: most,
         schedule: most,
@@ -126,8 +141,8 @@ fn other_words_are_refused(rt: HostRuntime) -> Result<(), Fail> {
         &["-h"],
         &["--version"],
         &["run", "-x"],
-        &["run", "job.toml", "--workers", "2"],
-        &["run", "job.toml", "--trace=t"],
+        &["run", "job.toml", "--workers", "9"],
+        &["run", "job.toml", "--workers=2", "--trace=t"],
     ];
     for given in cases {
         check_refused(&rt, rt.alloc(), given)?;

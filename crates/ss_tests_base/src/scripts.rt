@@ -50,15 +50,31 @@ fn a_schedule_says_its_acts(rt: HostRuntime) -> Result<(), Fail> {
 }
 
 #[test]
+fn a_schedule_says_acts_of_collection(rt: HostRuntime) -> Result<(), Fail> {
+    let acts = acts_of(
+        rt.alloc(),
+        b"collect s\n trim\tw \r\npass\ncollect w\ntrim s",
+    )
+    .ok();
+    let want = [
+        Act::Collect { v: 0 },
+        Act::Trim { v: 1 },
+        Act::Pass,
+        Act::Collect { v: 1 },
+        Act::Trim { v: 0 },
+    ];
+    assert!(rt; acts.ok_or("acts")?.as_slice() == want.as_slice());
+    Ok(())
+}
+
+#[test]
 fn the_first_fault_of_a_schedule_is_told(rt: HostRuntime) {
-    let cases: [(&[u8], u64, ScriptWhy); 26] = [
+    let cases: [(&[u8], u64, ScriptWhy); 31] = [
         (b"read s 0\nfly s", 2, ScriptWhy::BadWord),
         (b"fly", 1, ScriptWhy::BadWord),
         (b" # read s 0", 1, ScriptWhy::BadWord),
         (b"Read s 0", 1, ScriptWhy::BadWord),
-        (b"collect s", 1, ScriptWhy::BadWord),
-        (b"trim w", 1, ScriptWhy::BadWord),
-        (b"pass", 1, ScriptWhy::BadWord),
+        (b"Collect s", 1, ScriptWhy::BadWord),
         (b"take o\r", 1, ScriptWhy::UnknownName),
         (b"read\r", 1, ScriptWhy::BadWord),
         (b"read x", 1, ScriptWhy::BadCount),
@@ -66,9 +82,16 @@ fn the_first_fault_of_a_schedule_is_told(rt: HostRuntime) {
         (b"lose s 0", 1, ScriptWhy::BadCount),
         (b"take", 1, ScriptWhy::BadCount),
         (b"flush s", 1, ScriptWhy::BadCount),
+        (b"collect", 1, ScriptWhy::BadCount),
+        (b"trim w 0", 1, ScriptWhy::BadCount),
+        (b"collect s\npass s", 2, ScriptWhy::BadCount),
         (b"read x y", 1, ScriptWhy::UnknownName),
         (b"read o 0", 1, ScriptWhy::UnknownName),
         (b"take w", 1, ScriptWhy::UnknownName),
+        (b"collect o", 1, ScriptWhy::UnknownName),
+        (b"pass\ntrim o", 2, ScriptWhy::UnknownName),
+        (b"trim x", 1, ScriptWhy::UnknownName),
+        (b"pass\nfly", 2, ScriptWhy::BadWord),
         (b"read w x", 1, ScriptWhy::BadNumber),
         (b"read w +1", 1, ScriptWhy::BadNumber),
         (b"read w 4294967296", 1, ScriptWhy::BadNumber),
@@ -109,13 +132,15 @@ fn a_failure_file_says_its_triggers(rt: HostRuntime) -> Result<(), Fail> {
 
 #[test]
 fn the_first_fault_of_a_failure_file_is_told(rt: HostRuntime) {
-    let cases: [(&[u8], ScriptWhy); 16] = [
+    let cases: [(&[u8], ScriptWhy); 18] = [
         (b"read w 4 lose w", ScriptWhy::BadWord),
         (b"at", ScriptWhy::BadWord),
         (b"when", ScriptWhy::BadCount),
         (b"when x y", ScriptWhy::BadCount),
         (b"when x y fly", ScriptWhy::BadWord),
         (b"when x y take o", ScriptWhy::BadWord),
+        (b"when w 4 collect w", ScriptWhy::BadWord),
+        (b"when w 4 pass", ScriptWhy::BadWord),
         (b"when x y crash w", ScriptWhy::BadCount),
         (b"when x y lose w 0", ScriptWhy::BadCount),
         (b"when x y lose z", ScriptWhy::UnknownName),

@@ -1,6 +1,6 @@
 use Rattle.std.proofs.Common.{◌≡◌, drop}
 use Rattle.std.specs.Prelude.{map}
-use Rattle.ss_fail.specs.Acts.{act_line, trigger_line}
+use Rattle.ss_fail.specs.Acts.{trigger_line}
 use Rattle.ss_fail.specs.Lines.{values_of}
 use Rattle.ss_fail.specs.SaidLine.{said}
 use Rattle.ss_fail.proofs.Values.{with_front}
