@@ -26,7 +26,7 @@ use Rattle.ss_water.specs.declared.node.Kind.TheVariants as kind
 use Rattle.ss_water.specs.declared.node.Node.{Node}
 use Rattle.ss_frames.specs.Laws.{PlansAreRunnable, PlansHaveNumbers, PlanNumbersAreMeant, InputsAreOfNodes}
 use Rattle.ss_frames.specs.Frames.{inputs_at}
-use Rattle.ss_frames.specs.Plans.{unlimited, policy_with, policies_with, policies_of, limits_of, plan_numbers, HasPolicy}
+use Rattle.ss_frames.specs.Plans.{policy_with, policies_with, policies_of, limits_of, plan_numbers, HasPolicy}
 use Rattle.ss_frames.proofs.Vertices.{Stands, stands, reads_count, read_is, kind_is}
 
 -- ---- inputs
@@ -190,7 +190,7 @@ plans_are_runnable means law plan is =
           listed plan is v st.node st.text list st.text_is (sym st.vertex ∙ e);
       every = λ v h. (asked_at law plan is v (omega (arith, h, count))).every;
       replicas = λ v h. (asked_at law plan is v (omega (arith, h, count))).replicas;
-      collects = omega arith;
+      collects = is.job.collect_every.least_of;
     }
 
 pub plans_have_numbers : PlansMeanJobs → VerticesByNumber → RunnableHasNumbers → PlansHaveNumbers
@@ -215,7 +215,7 @@ most_is : (plan : PlanText) → (plan_numbers plan).max_elements ≡ plan.job.ma
 unfolding plan_numbers job_numbers
 most_is plan = refl
 
-collects_is : (plan : PlanText) → (plan_numbers plan).collect_every ≡ unlimited
+collects_is : (plan : PlanText) → (plan_numbers plan).collect_every ≡ plan.job.collect_every
 unfolding plan_numbers job_numbers
 collects_is plan = refl
 

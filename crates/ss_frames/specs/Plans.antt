@@ -1,5 +1,5 @@
 -- What every plan keeps, and its numbers.
-use Rattle.std.specs.Prelude.{◌≡◌, ℕ, ◌^◌, ◌<◌, ◌↔◌, false, List, [], ◌∷◌, true, length, Some, slice_get, IsSome}
+use Rattle.std.specs.Prelude.{◌≡◌, ℕ, ◌<◌, ◌↔◌, false, List, [], ◌∷◌, true, length, Some, slice_get, IsSome}
 use Rattle.ss_fail.specs.declared.role.Role.{Role}
 use Rattle.ss_job.specs.JobText.{VertexText, source, inner, sink, JobText, op_of, spec_of}
 use Rattle.ss_job.specs.declared.op.Op.TheVariants as op
@@ -9,10 +9,6 @@ use Rattle.ss_state.specs.Numbers.{VertexNumbers, JobNumbers, is_inner, vertex}
 use Rattle.ss_state.specs.NumbersOfMeaning.{Policy, Limits, job_numbers, IsMeant}
 use Rattle.ss_water.specs.Graph.{is_sink}
 use Rattle.ss_water.specs.declared.node.Kind.TheVariants as kind
-
--- more than 64 bits count: with it no pass of collection is ever due
-abbrev pub unlimited : ℕ
-unlimited = 2 ^ 65
 
 -- after how many elements a snapshot would be due of a source or a sink, of which there are none
 abbrev pub every_of_none : ℕ
@@ -37,7 +33,7 @@ policies_of job = policies_with job.roles job.vertices
 
 -- what a job allows
 abbrev pub limits_of : JobText → Limits
-limits_of job = record { max_elements = job.max_elements; collect_every = unlimited }
+limits_of job = record { max_elements = job.max_elements; collect_every = job.collect_every }
 
 -- the numbers of a plan
 unfoldable pub plan_numbers : PlanText → JobNumbers
@@ -52,7 +48,7 @@ pub record HasPolicy (policy : Policy) (x : VertexNumbers) : Type 0 where
 -- the numbers are those of a plan's meaning and of its job
 pub record AreOfPlan (plan : PlanText) (job : JobNumbers) : Type 0 where
   pub max_elements : job.max_elements ≡ plan.job.max_elements
-  pub collect_every : job.collect_every ≡ unlimited
+  pub collect_every : job.collect_every ≡ plan.job.collect_every
   pub count : length job.vertices ≡ length plan.job.graph
   pub meant : (v : ℕ) → v < length plan.job.graph → IsMeant (vertices_of plan) v (vertex job v)
   pub policies : (v : ℕ) (role : Role) (text : VertexText)
