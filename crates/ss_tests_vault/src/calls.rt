@@ -13,6 +13,10 @@ pub(crate) enum Call {
     Fetch { limit: u64 },
     Read { v: u32, n: u64 },
     Take { k: u32 },
+    /// A collect, a trim and a pass, each with a place for its entry.
+    Collect { v: u32 },
+    Trim { v: u32 },
+    Pass,
 }
 
 /// What it answers, where nothing goes wrong.
@@ -24,6 +28,10 @@ pub(crate) enum Answer {
     Fetch { n: u64, out: u64, image: usize },
     Read(Read),
     Take(Take),
+    Collect { base: u64 },
+    /// The low-water mark of an operator, or the mark of a source.
+    Trim { mark: u64 },
+    Pass,
 }
 
 /// What a snapshot of vertex 1, a vertex with one input, tells.
@@ -60,6 +68,18 @@ pub(crate) fn make(store: &mut Store, call: Call) -> Result<Result<Answer, Vault
         }),
         Call::Take { k } => Ok(match store.take(k)? {
             Ok(answer) => Ok(Answer::Take(answer)),
+            Err(fault) => Err(fault),
+        }),
+        Call::Collect { v } => Ok(match store.collect(v)? {
+            Ok(base) => Ok(Answer::Collect { base }),
+            Err(fault) => Err(fault),
+        }),
+        Call::Trim { v } => Ok(match store.trim(v)? {
+            Ok(mark) => Ok(Answer::Trim { mark }),
+            Err(fault) => Err(fault),
+        }),
+        Call::Pass => Ok(match store.pass()? {
+            Ok(()) => Ok(Answer::Pass),
             Err(fault) => Err(fault),
         }),
     }

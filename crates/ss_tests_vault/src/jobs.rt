@@ -97,6 +97,16 @@ const fn take(k: u32, answer: Take) -> Step {
     (Call::Take { k }, Answer::Take(answer))
 }
 
+const fn collect(v: u32, base: u64) -> Step {
+    (Call::Collect { v }, Answer::Collect { base })
+}
+
+const fn trim(v: u32, mark: u64) -> Step {
+    (Call::Trim { v }, Answer::Trim { mark })
+}
+
+const PASS: Step = (Call::Pass, Answer::Pass);
+
 /// A run of the job with the select.
 pub(crate) fn run_of_select() -> Result<[Step; 21], Fail> {
     let first = row(1, 2, 1)?;
@@ -168,4 +178,52 @@ pub(crate) fn run_of_window() -> [Step; 21] {
         take(2, Take::Ended),
         read(1, 2, Read::Item(Element::Cti(20))),
     ]
+}
+
+/// The job with the select, as far as a pass has something to drop: of the source all four elements are stored and of the
+/// select three, with the snapshots 0, 2 and 3, and the sink has put two lines.
+pub(crate) fn before_a_pass() -> [Step; 6] {
+    [
+        flushed(0, 0, 4, 4, 4),
+        keep(2, Keep::Kept),
+        keep(3, Keep::Kept),
+        flushed(1, 0, 3, 3, 3),
+        take(2, Take::Took { n: 0 }),
+        take(2, Take::Took { n: 1 }),
+    ]
+}
+
+/// A run of the job with the select that collects, trims and passes.
+pub(crate) fn run_with_passes() -> Result<[Step; 26], Fail> {
+    let (third, fourth) = (row(3, 4, 3)?, Element::End);
+    Ok([
+        flushed(0, 0, 1, 1, 1),
+        flushed(1, 0, 2, 2, 2),
+        // The select would be recovered from its snapshot 0.
+        collect(0, 0),
+        keep(2, Keep::Kept),
+        // Now from 2, so that two elements of the source aren't needed, though one of them isn't stored.
+        collect(0, 2),
+        read(0, 1, Read::Gone { base: 2 }),
+        read(0, 2, Read::NotYet { dur: 2 }),
+        flushed(0, 2, 2, 2, 4),
+        read(0, 2, Read::Item(third)),
+        trim(1, 2),
+        trim(0, 4),
+        collect(1, 0),
+        take(2, Take::Took { n: 0 }),
+        take(2, Take::Took { n: 1 }),
+        collect(1, 2),
+        flushed(1, 2, 1, 1, 3),
+        keep(3, Keep::Kept),
+        keep(1, Keep::Old { low: 3 }),
+        PASS,
+        read(0, 2, Read::Gone { base: 3 }),
+        read(0, 3, Read::Item(fourth)),
+        fetch(3, 3, 3, 0),
+        take(2, Take::Took { n: 2 }),
+        flushed(1, 3, 1, 1, 4),
+        take(2, Take::Took { n: 3 }),
+        PASS,
+    ])
 }

@@ -6,6 +6,8 @@ mod batches;
 #[cfg(test)]
 mod calls;
 #[cfg(test)]
+mod collections;
+#[cfg(test)]
 mod contents;
 #[cfg(test)]
 mod devices;

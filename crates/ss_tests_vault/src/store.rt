@@ -135,6 +135,30 @@ impl Store {
         Ok(self.vault.take(&self.plan, k))
     }
 
+    /// Collects stream `v`, behind reserving the place for its entry.
+    pub(crate) fn collect(&mut self, v: u32) -> Result<Result<u64, VaultFault>, Fail> {
+        if !is_stream(&self.plan, v) {
+            return Err("no stream".into());
+        }
+        self.vault.ready()?;
+        Ok(self.vault.collect(&self.plan, v))
+    }
+
+    /// Trims vertex `v`, behind reserving the place for its entry.
+    pub(crate) fn trim(&mut self, v: u32) -> Result<Result<u64, VaultFault>, Fail> {
+        if !is_stream(&self.plan, v) {
+            return Err("no stream".into());
+        }
+        self.vault.ready()?;
+        Ok(self.vault.trim(&self.plan, v))
+    }
+
+    /// Makes a pass, behind reserving the place for its entry.
+    pub(crate) fn pass(&mut self) -> Result<Result<(), VaultFault>, Fail> {
+        self.vault.ready()?;
+        Ok(self.vault.pass(&self.plan))
+    }
+
     /// What is told of vertex `v`: base, dur, mark and taken.
     pub(crate) fn row(&self, v: u32) -> Result<[u64; 4], Fail> {
         if !is_vertex(&self.plan, v) {

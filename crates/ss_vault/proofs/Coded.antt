@@ -1,18 +1,25 @@
 -- What the laws of frames say of a plan's snapshots.
-use Rattle.std.proofs.Common.{◌≡◌, ℕ, ◌<◌, true, false, length, Option, Some, None, refl, sym, ap, ap₂, ◌∙◌, subst, arith, ⊎_elim}
+use Rattle.std.proofs.Common.{◌≡◌, ℕ, ◌+◌, ◌-◌, ◌<◌, true, false, List, length, replicate, Option, Some, None, refl, sym, ap, ap₂, ◌∙◌, subst, arith, ⊎_elim}
 use Rattle.std.proofs.lemmas.Bool.{cases_lt, true≢false}
-use Rattle.std.proofs.lemmas.List.{get_or_past}
-use Rattle.std.specs.Prelude.{IsSome}
+use Rattle.std.proofs.Math.ListN.{get_or-append}
+use Rattle.std.proofs.lemmas.List.{get_or-map, get_or_past, length-map}
+use Rattle.std.proofs.lemmas.List.FromFn.{get_or-range_with_len, length-range_with_len}
+use Rattle.std.specs.List.{range_with_len}
+use Rattle.std.specs.Prelude.{IsSome, slice_index}
 use Rattle.ss_codec.specs.declared.frame.Frame.{Frame}
 use Rattle.ss_expr.specs.declared.stream_operator.Spec.{Spec}
 use Rattle.ss_frames.specs.First.{first_frame}
-use Rattle.ss_frames.specs.Frames.{frame_of}
+use Rattle.ss_frames.specs.Frames.{frame_of, padded}
 use Rattle.ss_frames.specs.Laws.{FirstFrames, FramesAreMeant, FramesHaveCodes, InputsAreOfNodes, PlanNumbersAreMeant, WithinIsMayAccept}
 use Rattle.ss_frames.specs.Plans.{AreOfPlan, plan_numbers}
 use Rattle.ss_frames.specs.Within.{AreKept, IsOfMeaning, IsWithin}
 use Rattle.ss_job.specs.JobText.{spec_of}
 use Rattle.ss_plan.specs.Limit.{IsPlan}
-use Rattle.ss_plan.specs.Plan.{PlanText}
+use Rattle.ss_meaning.specs.Meaning.{Vertex, reads}
+use Rattle.ss_meaning.specs.Meaning.{vertex as meant_vertex}
+use Rattle.ss_meaning.specs.Positions as position
+use Rattle.ss_meaning.specs.Positions.{positions}
+use Rattle.ss_plan.specs.Plan.{PlanText, vertices_of}
 use Rattle.ss_state.specs.Joint.{MayAccept}
 use Rattle.ss_state.specs.Numbers.{JobNumbers, VertexNumbers, IsOperator, IsStream, is_inner, no_vertex, vertex}
 use Rattle.ss_water.specs.Graph.{is_sink}
@@ -25,7 +32,7 @@ inner_gives Source h = refl
 inner_gives Inner h = refl
 inner_gives Sink h = absurd cc
 
-gives : (job : JobNumbers) (v : ℕ) → IsOperator job v → IsStream job v
+pub gives : (job : JobNumbers) (v : ℕ) → IsOperator job v → IsStream job v
 gives job v operator = (operator.0, inner_gives (vertex job v).kind operator.1)
 
 in_job : (job : JobNumbers) (v : ℕ) → is_inner (vertex job v).kind ≡ true → v < length job.vertices
@@ -37,6 +44,16 @@ in_job job v inner = ⊎_elim
 some_spec : (o : Option Spec) → IsSome o → (s : Spec) × (o ≡ Some s)
 some_spec None h = absurd cc
 some_spec (Some s) h = (s, refl)
+
+-- the positions of a snapshot, by input
+positions_at : (job : List Vertex) (v n i : ℕ) → i < length (reads (meant_vertex job v)) → slice_index (padded (positions job v n)) i ≡ position.pos job v n i
+positions_at job v n i within =
+    let count : ℕ = length (reads (meant_vertex job v)) in
+    let range = length-range_with_len 0 count in
+    let long = length-map (range_with_len 0 count) (position.pos job v n) in
+    get_or-append (positions job v n) (replicate (8 - length (positions job v n)) 0) 0 i (omega (arith, within, range, long))
+    ∙ get_or-map (position.pos job v n) (range_with_len 0 count) i 0 0 (omega (arith, within, range))
+    ∙ ap (position.pos job v n) (get_or-range_with_len 0 count i 0 within ∙ (let e : 0 + i ≡ i = omega arith in e))
 
 pub snapshot_facts : PlanNumbersAreMeant → InputsAreOfNodes → FirstFrames → FramesAreMeant → FramesHaveCodes → WithinIsMayAccept
     → (plan : PlanText) → IsPlan plan → SnapshotFacts plan
@@ -84,5 +101,8 @@ snapshot_facts are_meant inputs firsts frames_meant codes within_law plan is = r
           few = code.1;
           of_vertex = f.vertex;
           number = f.taken;
+          read = λ i below.
+              let inputs = ap length x.inputs in
+              ap (λ (p : List ℕ). slice_index p i) f.pos ∙ positions_at (vertices_of plan) v n i (omega (arith, below, inputs)) ∙ sym (x.pos operator.1 n i);
           given = f.out ∙ sym (x.out (inner_gives (vertex (plan_numbers plan) v).kind operator.1) n accepted.within);
         }

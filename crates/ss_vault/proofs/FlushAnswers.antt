@@ -10,16 +10,13 @@ use Rattle.ss_state.specs.Numbers.{JobNumbers}
 use Rattle.ss_state.specs.State.{Ledger, row_at}
 use Rattle.ss_vault.specs.Answers.{entry_of_flush, flush_answer}
 use Rattle.ss_vault.specs.Calls.{Enters, Flushes}
-use Rattle.ss_vault.specs.Facts.{PlanFacts}
-use Rattle.ss_vault.specs.NumbersHeld.{all_stored}
-use Rattle.ss_vault.specs.Sound.{Sound, elements_from}
+use Rattle.ss_vault.specs.Sound.{elements_from}
 use Rattle.ss_vault.specs.Steps.{AreNext, Stores}
 use Rattle.ss_vault.specs.Told.{VaultTold, durable_of, numbers_of}
 use Rattle.ss_vault.specs.declared.answers.Flush.{Flush}
 use Rattle.ss_vault.specs.declared.answers.Flush.TheVariants as flush
 use Rattle.ss_vault.specs.declared.fault.VaultFault.{VaultFault}
 use Rattle.ss_vault.specs.declared.fault.VaultFault.TheVariants as fault
-use Rattle.ss_vault.proofs.Flushed.{stored_few}
 
 lt_no : (m n : ℕ) → n ≤ m → nat_lt m n ≡ false
 lt_no m n h = grind (arith, nat_tests)
@@ -27,19 +24,14 @@ lt_no m n h = grind (arith, nat_tests)
 lt_yes : (m n : ℕ) → m < n → nat_lt m n ≡ true
 lt_yes m n h = grind (arith, nat_tests)
 
--- no pass is ever due
-pub never_due : (plan : PlanText) → PlanFacts plan → (s : VaultTold) (count : ℕ) → Sound plan s → count ≤ 64
-    → (numbers_of s).ledger.since ≤ all_stored (numbers_of s).ledger
-    → nat_lt (plan_numbers plan).collect_every ((numbers_of s).ledger.since + count) ≡ false
-never_due plan facts s count sound few since =
-    let all = stored_few plan facts s sound in
-    let limit = facts.unlimited in
-    lt_no (plan_numbers plan).collect_every ((numbers_of s).ledger.since + count) (omega (arith, all, limit, since, few))
-
 abbrev choice : Bool → Bool → ℕ → ℕ → ℕ → ℕ → Flush
 choice past apart since from dur count =
     if past then flush.PassDue since
     else (if apart then flush.Apart from dur else flush.Flushed (max dur (from + count) - dur) (max dur (from + count)))
+
+-- no pass is due
+pub none_is_due : (job : JobNumbers) (l : Ledger) (count : ℕ) → l.since + count ≤ job.collect_every → nat_lt job.collect_every (l.since + count) ≡ false
+none_is_due job l count few = lt_no job.collect_every (l.since + count) few
 
 pub flush_apart : (job : JobNumbers) (l : Ledger) (v from count : ℕ) → nat_lt job.collect_every (l.since + count) ≡ false → (row_at l v).dur < from
     → flush.Apart from (row_at l v).dur ≡ flush_answer job l v from count

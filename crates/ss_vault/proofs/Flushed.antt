@@ -133,7 +133,7 @@ stored_few plan facts vault sound =
 pub flushed_sound : RunFacts → (plan : PlanText) → PlanFacts plan → (s u : VaultTold) (v count : ℕ) → Sound plan s
     → IsStream (plan_numbers plan) v → count ≤ 64 → (durable_of s v).dur + count ≤ length (meaning (vertices_of plan) v)
     → (durable_of s v).dur + count ≤ (plan_numbers plan).max_elements
-    → (numbers_of s).ledger.since ≤ all_stored (numbers_of s).ledger
+    → (numbers_of s).ledger.since + count ≤ (plan_numbers plan).collect_every
     → numbers_of u ≡ enter (plan_numbers plan) (numbers_of s) (Some (entry.Flushed v count))
     → u.held.snaps ≡ s.held.snaps → u.held.ended ≡ s.held.ended
     → HasMore s.depot.contents u.depot.contents v (records_from v (durable_of s v).dur (elements_from plan v (durable_of s v).dur count))
@@ -148,13 +148,11 @@ flushed_sound runs plan facts s u v count sound stream few dur within since e sn
     let here : v < length l.rows = let h = stream.0 in omega (arith, h, rows) in
     let is_flushed : m ≡ flushed l v count = flushed_is job (numbers_of s) (numbers_of u) v count e in
     let same : SameBesides l m = flushed_besides l m v count here is_flushed in
-    let all = stored_few plan facts s sound in
-    let limit = facts.unlimited in
     let lawful : MayFlush job l v count = record {
       stream = stream;
       few = few;
       within = let k = facts.size v stream in omega (arith, dur, k);
-      since = omega (arith, since, all, limit, few);
+      since = since;
     } in
     let row = sound.numbers.stands.row v in
     let held : HoldsRecords plan v (row_at l v) s.depot.contents = sound.records v in

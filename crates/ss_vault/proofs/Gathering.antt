@@ -1,14 +1,15 @@
 -- What the laws of plans say of one.
-use Rattle.std.proofs.Common.{◌≡◌, ℕ, ◌<◌, true, List, [], length, get_or, Option, Some, None, refl, sym, ap, ◌∙◌, subst, arith}
+use Rattle.std.proofs.Common.{◌≡◌, ℕ, ◌<◌, true, List, [], length, get_or, map, Option, Some, None, refl, sym, ap, ◌∙◌, subst, arith}
 use Rattle.std.proofs.lemmas.Option.{slice_get-get_or, slice_get_within}
 use Rattle.std.specs.List.{slice_get}
-use Rattle.std.specs.Prelude.{IsSome, option_and_then}
+use Rattle.std.specs.Prelude.{IsSome, option_and_then, slice_index}
+use Rattle.std.specs.List.{range_with_len}
 use Rattle.ss_elem.specs.declared.element.Element.{Element}
 use Rattle.ss_expr.specs.declared.stream_operator.Spec.{Spec}
 use Rattle.ss_expr.specs.declared.stream_operator.Spec.TheVariants as spec
 use Rattle.ss_fail.specs.declared.role.Role.{Role}
 use Rattle.ss_job.specs.JobIn.{kind_of as named_kind}
-use Rattle.ss_frames.specs.Laws.{PlansHaveNumbers, PlanNumbersAreMeant}
+use Rattle.ss_frames.specs.Laws.{InputsAreOfNodes, PlansHaveNumbers, PlanNumbersAreMeant}
 use Rattle.ss_frames.specs.Plans.{plan_numbers, AreOfPlan}
 use Rattle.ss_job.specs.JobText.{VertexText, source, inner, sink, JobText, op_of_vertex, spec_of_vertex, sink_file_of_vertex}
 use Rattle.ss_job.specs.Sound.{IsJob}
@@ -16,7 +17,7 @@ use Rattle.ss_meaning.specs.Laws.{MeaningIsWhole}
 use Rattle.ss_meaning.specs.Meaning.{reads, vertex}
 use Rattle.ss_plan.specs.Laws.{PlansMeanJobs, VerticesByNumber}
 use Rattle.ss_plan.specs.Limit.{IsPlan}
-use Rattle.ss_plan.specs.Plan.{PlanText, vertex_at, vertices_of, source_list}
+use Rattle.ss_plan.specs.Plan.{PlanText, inputs_read, vertex_at, vertices_of, source_list}
 use Rattle.ss_state.specs.Numbers as table
 use Rattle.ss_state.specs.Numbers.{IsOperator, IsSink, IsStream, VertexNumbers, is_inner}
 use Rattle.ss_state.specs.NumbersOfMeaning.{kind_of}
@@ -73,6 +74,13 @@ sink_reads node (source file late) list h = absurd cc
 sink_reads node (inner s policy) list h = absurd cc
 sink_reads node (sink file) list h = refl
 
+-- what a vertex reads, where it has as many inputs as its node is wide
+all_inputs : (node : Node) (text : VertexText) (list : List Element) → length (reads (vertex_at node text list)) ≡ node.width
+    → reads (vertex_at node text list) ≡ inputs_read node
+all_inputs node (source file late) list h = ap (λ (w : ℕ). map (λ (i : ℕ). slice_index node.inputs i) (range_with_len 0 w)) h
+all_inputs node (inner s policy) list h = refl
+all_inputs node (sink file) list h = ap (λ (w : ℕ). map (λ (i : ℕ). slice_index node.inputs i) (range_with_len 0 w)) h
+
 computing : (text : Option VertexText) (operator : Spec) → option_and_then spec_of_vertex text ≡ Some operator
     → (t : VertexText) × (text ≡ Some t) × (spec_of_vertex t ≡ Some operator)
 computing None operator h = absurd cc
@@ -96,9 +104,9 @@ within_job : (job : JobText) → IsJob job → (v : ℕ) (text : VertexText) →
 within_job job is v text h = let k = slice_get_within job.vertices v text h in let e = is.vertices in omega (arith, k, e)
 
 -- from laws to facts
-pub facts : PlansMeanJobs → VerticesByNumber → PlansHaveNumbers → PlanNumbersAreMeant → MeaningIsWhole → (plan : PlanText) → IsPlan plan
+pub facts : PlansMeanJobs → VerticesByNumber → PlansHaveNumbers → PlanNumbersAreMeant → InputsAreOfNodes → MeaningIsWhole → (plan : PlanText) → IsPlan plan
     → PlanFacts plan
-facts means by_number have_numbers are_meant are_whole plan is =
+facts means by_number have_numbers are_meant inputs_law are_whole plan is =
     let job : table.JobNumbers = plan_numbers plan in
     let of_plan : AreOfPlan plan job = are_meant plan is in
     let count : length job.vertices ≡ length plan.job.graph = of_plan.count in
@@ -115,7 +123,8 @@ facts means by_number have_numbers are_meant are_whole plan is =
       count = count;
       most = of_plan.max_elements;
       limit = limit;
-      unlimited = of_plan.collect_every;
+      collect_every = of_plan.collect_every;
+      collects = is.job.collect_every;
       size = λ v stream. (of_plan.meant v (let h = stream.0 in omega (arith, h, count))).size stream.1;
       whole = λ v stream. (are_whole (vertices_of plan) (means plan is.job is.lists) v (let h = stream.0 in omega (arith, h, count, vertices))).0;
       kinds = λ v node node_is.
@@ -126,6 +135,13 @@ facts means by_number have_numbers are_meant are_whole plan is =
           kind_at v h ∙ kind_by_text x.node x.text (source_list plan v)
           ∙ sym ((is.job.each v (role_at plan v) x.node x.text (slice_get-get_or plan.job.roles v no_role (let r = is.job.roles in omega (arith, before, r))) x.node_is x.text_is).node_kind)
           ∙ ap (λ (n : Node). n.kind) same;
+      inputs = λ v node node_is.
+          let before = slice_get_within plan.job.graph v node node_is in
+          let x = at_vertex v (omega (arith, before, count)) in
+          let same : x.node ≡ node = cc (x.node_is, node_is) in
+          let wide : length (reads (vertex_at x.node x.text (source_list plan v))) ≡ x.node.width =
+          sym (ap (λ y. length (reads y)) x.vertex) ∙ inputs_law plan is v x.node x.node_is in
+          (of_plan.meant v before).inputs ∙ ap reads x.vertex ∙ all_inputs x.node x.text (source_list plan v) wide ∙ ap inputs_read same;
       operator = λ v operator.
           let x = at_vertex v operator.0 in
           let inner_text = operator_text x.node x.text (source_list plan v) (ap is_inner (sym (kind_at v operator.0)) ∙ operator.1) in

@@ -116,7 +116,7 @@ kept_besides l m v k w within e = ⊎_elim
     (cases_eq w v)
 
 -- the stored snapshots say their own numbers
-numbers_told : (plan : PlanText) → SnapshotFacts plan → (s : VaultTold) (v : ℕ) → Sound plan s → IsOperator (plan_numbers plan) v → (n : ℕ)
+pub numbers_told : (plan : PlanText) → SnapshotFacts plan → (s : VaultTold) (v : ℕ) → Sound plan s → IsOperator (plan_numbers plan) v → (n : ℕ)
     → is_one_of n (durable_of s v).snaps ≡ true → (snap_at plan v n).n ≡ n
 numbers_told plan snaps s v sound operator n h = (snaps.coded v n operator ((sound.numbers.stands.row v).snaps n h)).number
 

@@ -18,7 +18,13 @@ pub mod Answering
 pub mod Fetched
 pub mod Behind
 pub mod Rows
+pub mod FirstRows
 pub mod Firsts
 pub mod Ended
 pub mod Distinct
 pub mod Gathering
+pub mod Needed
+pub mod Collected
+pub mod Halves
+pub mod Passed
+pub mod Entered

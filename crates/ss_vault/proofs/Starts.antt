@@ -32,14 +32,14 @@ chosen_least false n rest b h k = omega (arith, k)
 le_of : (m n : ℕ) → nat_le m n ≡ true → m ≤ n
 le_of m n h = grind (arith, nat_tests)
 
-at_most : (snaps : List SnapRow) (limit b : ℕ) → ((k : ℕ) → k < length snaps → out_at snaps k ≤ limit → n_at snaps k ≤ b) → greatest_within snaps limit ≤ b
+pub at_most : (snaps : List SnapRow) (limit b : ℕ) → ((k : ℕ) → k < length snaps → out_at snaps k ≤ limit → n_at snaps k ≤ b) → greatest_within snaps limit ≤ b
 at_most [] limit b each = omega arith
 at_most (snap ∷ snaps) limit b each =
     chosen_least (nat_le snap.out limit) snap.n (greatest_within snaps limit) b
     (λ h. each 0 (omega arith) (le_of snap.out limit h))
     (at_most snaps limit b (λ k h o. each (suc k) (omega (arith, h)) o))
 
-at_least : (snaps : List SnapRow) (limit k : ℕ) → k < length snaps → out_at snaps k ≤ limit → n_at snaps k ≤ greatest_within snaps limit
+pub at_least : (snaps : List SnapRow) (limit k : ℕ) → k < length snaps → out_at snaps k ≤ limit → n_at snaps k ≤ greatest_within snaps limit
 at_least [] limit k h o = absurd (omega (arith, h))
 at_least (snap ∷ snaps) limit zero h o =
     subst (λ (b : Bool). snap.n ≤ max (if b then snap.n else 0) (greatest_within snaps limit)) (sym (le_true snap.out limit o)) (omega arith)
@@ -97,7 +97,7 @@ at_is_one (m ∷ ms) zero h = first_is m ms
 at_is_one (m ∷ ms) (suc k) h = rest_is (get_or ms k 0) m ms (at_is_one ms k (omega (arith, h)))
 
 -- and one of them has a place
-place_of : (n : ℕ) (ns : List ℕ) → is_one_of n ns ≡ true → (k : ℕ) × (k < length ns) × (get_or ns k 0 ≡ n)
+pub place_of : (n : ℕ) (ns : List ℕ) → is_one_of n ns ≡ true → (k : ℕ) × (k < length ns) × (get_or ns k 0 ≡ n)
 place_of n [] h = absurd cc
 place_of n (m ∷ ms) h = ⊎_elim
     (λ (same : m ≡ n). (0, omega arith, same))
@@ -106,13 +106,13 @@ place_of n (m ∷ ms) h = ⊎_elim
     (suc rest.0, let i = rest.1 in omega (arith, i), rest.2))
     (cases_eq m n)
 
-told_n : (x : VertexNumbers) (f : ℕ → SnapRow) (ns : List ℕ) (k : ℕ) → Tells x f ns → k < length ns → n_at (map f ns) k ≡ get_or ns k 0
+pub told_n : (x : VertexNumbers) (f : ℕ → SnapRow) (ns : List ℕ) (k : ℕ) → Tells x f ns → k < length ns → n_at (map f ns) k ≡ get_or ns k 0
 told_n x f ns k tells h =
     ap (λ o. option_map_or (λ (row : SnapRow). row.n) o 0) (slice_get-get_or (map f ns) k (f 0) (omega (arith, h, length-map ns f)))
     ∙ ap (λ (s : SnapRow). s.n) (get_or-map f ns k 0 (f 0) h)
     ∙ tells.number (get_or ns k 0) (at_is_one ns k h)
 
-told_out : (x : VertexNumbers) (f : ℕ → SnapRow) (ns : List ℕ) (k : ℕ) → Tells x f ns → k < length ns → out_at (map f ns) k ≡ out x (get_or ns k 0)
+pub told_out : (x : VertexNumbers) (f : ℕ → SnapRow) (ns : List ℕ) (k : ℕ) → Tells x f ns → k < length ns → out_at (map f ns) k ≡ out x (get_or ns k 0)
 told_out x f ns k tells h =
     ap (λ o. option_map_or (λ (row : SnapRow). row.out) o 0) (slice_get-get_or (map f ns) k (f 0) (omega (arith, h, length-map ns f)))
     ∙ ap (λ (s : SnapRow). s.out) (get_or-map f ns k 0 (f 0) h)

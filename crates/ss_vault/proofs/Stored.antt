@@ -20,7 +20,6 @@ use Rattle.ss_vault.specs.Calls.{Enters}
 use Rattle.ss_vault.specs.Counts.{NoneFell}
 use Rattle.ss_vault.specs.Devices.{Appended, HasMore, StopsAppending}
 use Rattle.ss_vault.specs.Facts.{PlanFacts, RunFacts}
-use Rattle.ss_vault.specs.NumbersHeld.{all_stored}
 use Rattle.ss_vault.specs.Sound.{FilesHave, HasFiles, IsCounted, Sound, elements_from, nothing_behind, records_from}
 use Rattle.ss_vault.specs.Steps.{AreNext, Stores, halt_of}
 use Rattle.ss_vault.specs.Told.{VaultTold, counts_of, durable_of, numbers_of}
@@ -76,7 +75,7 @@ some_entry plan s v k =
 
 pub touched_sound : RunFacts → (plan : PlanText) → PlanFacts plan → (s u : VaultTold) (v count : ℕ) (elements : List Element) → Sound plan s
     → IsStream (plan_numbers plan) v → AreNext plan v s elements → length elements ≤ 64
-    → (numbers_of s).ledger.since ≤ all_stored (numbers_of s).ledger → Touched plan s u v count elements
+    → (numbers_of s).ledger.since + length elements ≤ (plan_numbers plan).collect_every → Touched plan s u v count elements
     → ((l : Ledger) (o : OutputsTold) → FilesHave plan l nothing_behind o → HasFiles plan l u.halted o)
     → s.halted ≡ None → IsCounted u.halted s.started (counts_of u) → Sound plan u
 touched_sound runs plan facts s u v zero elements sound stream next few since touched files going counted =
@@ -91,7 +90,7 @@ touched_sound runs plan facts s u v (suc k) elements sound stream next few since
     let part : take (suc k) elements ≡ elements_from plan v dur (suc k) = next_part plan v dur (suc k) elements next.elements within in
     flushed_sound runs plan facts s u v (suc k) sound stream (omega (arith, within, few))
     (next_within plan v dur (suc k) elements next.elements within (omega arith))
-    (let h = next.within in omega (arith, h, within)) since (touched.numbers ∙ some_entry plan s v k) touched.snaps touched.ended
+    (let h = next.within in omega (arith, h, within)) (omega (arith, since, within)) (touched.numbers ∙ some_entry plan s v k) touched.snaps touched.ended
     (subst (λ (xs : List Element). HasMore s.depot.contents u.depot.contents v (records_from v dur xs)) part touched.appended.contents)
     (subst (λ (xs : List Element). All HasRecord xs) part touched.appended.records)
     (files (numbers_of u).ledger u.outputs) touched.outputs going
@@ -115,7 +114,7 @@ touched_enters plan s u v count elements halt going on touched = record {
 -- all were stored
 pub stored_all : RunFacts → (plan : PlanText) → PlanFacts plan → (s u : VaultTold) (v count : ℕ) (elements : List Element) → Sound plan s
     → IsStream (plan_numbers plan) v → AreNext plan v s elements → length elements ≤ 64
-    → (numbers_of s).ledger.since ≤ all_stored (numbers_of s).ledger → Touched plan s u v count elements → s.halted ≡ None → u.halted ≡ None
+    → (numbers_of s).ledger.since + length elements ≤ (plan_numbers plan).collect_every → Touched plan s u v count elements → s.halted ≡ None → u.halted ≡ None
     → count ≡ length elements
     → Sound plan u × Stores plan v (length elements) s (Ok (flush.Flushed count ((durable_of s v).dur + count))) u
 stored_all runs plan facts s u v count elements sound stream next few since touched going on all = (
@@ -132,7 +131,7 @@ stored_all runs plan facts s u v count elements sound stream next few since touc
 -- or fewer, before a fault
 pub stored_some : RunFacts → (plan : PlanText) → PlanFacts plan → (s u : VaultTold) (v count : ℕ) (elements : List Element) (f : VaultFault) → Sound plan s
     → IsStream (plan_numbers plan) v → AreNext plan v s elements → length elements ≤ 64
-    → (numbers_of s).ledger.since ≤ all_stored (numbers_of s).ledger → Touched plan s u v count elements → s.halted ≡ None → u.halted ≡ halt_of f
+    → (numbers_of s).ledger.since + length elements ≤ (plan_numbers plan).collect_every → Touched plan s u v count elements → s.halted ≡ None → u.halted ≡ halt_of f
     → StopsAppending s.depot u.depot count (length elements) (Some f)
     → Sound plan u × Stores plan v (length elements) s (Err f) u
 stored_some runs plan facts s u v count elements (fault.Store faults) sound stream next few since touched going on stops = (

@@ -8,8 +8,8 @@ use Rattle.ss_meaning.specs.Meaning.{meaning}
 use Rattle.ss_plan.specs.Plan.{PlanText, vertices_of}
 use Rattle.ss_state.specs.Acts.{flush_entry}
 use Rattle.ss_state.specs.Journal.{is_one_of}
-use Rattle.ss_state.specs.LowWater.{low, snap_within}
-use Rattle.ss_state.specs.Numbers.{JobNumbers, vertex, input, size}
+use Rattle.ss_state.specs.LowWater.{low, low_at, snap_within}
+use Rattle.ss_state.specs.Numbers.{JobNumbers, is_inner, vertex, input, size}
 use Rattle.ss_state.specs.State.{Ledger, row_at}
 use Rattle.ss_state.specs.declared.entry.Entry.{Entry}
 use Rattle.ss_state.specs.declared.entry.Entry.TheVariants as entry
@@ -83,3 +83,7 @@ entry_of_take k (take.Took n) = Some (entry.Took k)
 -- the snapshot that a fetch gives: the greatest stored one with at most so many elements given
 abbrev pub fetched : JobNumbers → Ledger → ℕ → ℕ → ℕ
 fetched job l v limit = snap_within (vertex job v) (row_at l v).snaps limit
+
+-- what a trim of vertex v answers: of an operator the snapshot below which the others are dropped, of a source its mark
+abbrev pub trim_answer : JobNumbers → Ledger → ℕ → ℕ
+trim_answer job l v = if is_inner (vertex job v).kind then low_at job l v else (row_at l v).dur

@@ -1,6 +1,7 @@
 -- What each call of a vault answers, and what it leaves. `s` is what the vault tells before the call, and `u` after it.
-use Rattle.std.specs.Prelude.{◌≡◌, ℕ, ◌<◌, List, [], Option, Some, None, Result, Ok, Err, IsSome, IfSome, ◌≤◌}
-use Rattle.std.specs.Prelude.{slice_get}
+use Rattle.std.specs.Prelude.{◌≡◌, ℕ, ◌<◌, ◌≤◌, ◌⊎◌, true, false, List, [], Option, Some, None, Result, Ok, Err, IsSome}
+use Rattle.std.specs.Prelude.{IfSome, slice_get}
+use Rattle.std.specs.List.{list_any}
 use Rattle.ss_codec.specs.Frame.{frame_bytes}
 use Rattle.ss_codec.specs.declared.frame.Frame.{Frame}
 use Rattle.ss_elem.specs.Line.{line_of}
@@ -15,12 +16,15 @@ use Rattle.ss_outside.specs.declared.outputs.PutFault.TheVariants as put
 use Rattle.ss_meaning.specs.Meaning.{meaning}
 use Rattle.ss_plan.specs.Plan.{PlanText, vertices_of}
 use Rattle.ss_state.specs.Acts.{flush_entry}
-use Rattle.ss_state.specs.Journal.{enter}
-use Rattle.ss_state.specs.Numbers.{IsOperator, vertex, input}
+use Rattle.ss_state.specs.Journal.{all_halves, enter, is_one_of}
+use Rattle.ss_state.specs.Laws.{IsPassed, is_kept}
+use Rattle.ss_state.specs.LowWater.{need, required, start}
+use Rattle.ss_state.specs.Numbers.{IsOperator, IsSink, IsStream, is_inner, vertex, input}
 use Rattle.ss_state.specs.State.{first_ledger}
 use Rattle.ss_state.specs.declared.entry.Entry.{Entry}
+use Rattle.ss_state.specs.declared.entry.Entry.TheVariants as entry
 use Rattle.ss_vault.specs.Answers.{flush_answer, entry_of_flush, keep_answer, entry_of_keep, read_answer, IsOf}
-use Rattle.ss_vault.specs.Answers.{take_answer, entry_of_take, element_at, fetched}
+use Rattle.ss_vault.specs.Answers.{take_answer, entry_of_take, element_at, fetched, trim_answer}
 use Rattle.ss_vault.specs.Counts.{counts_told, NoneFell}
 use Rattle.ss_vault.specs.Sound.{sink_file, stream_put}
 use Rattle.ss_vault.specs.Told.{VaultTold, numbers_of, durable_of, counts_of}
@@ -72,6 +76,14 @@ IsOfStore (fault.Output count) = ⊥
 IsOfStore (fault.Damaged v n) = ⊥
 IsOfStore fault.Halted = Unit {0}
 IsOfStore fault.Memory = Unit {0}
+
+-- of one that drops what is stored, and takes no memory
+abbrev pub IsOfDrop : VaultFault → Type 0
+IsOfDrop (fault.Store count) = Unit {0}
+IsOfDrop (fault.Output count) = ⊥
+IsOfDrop (fault.Damaged v n) = ⊥
+IsOfDrop fault.Halted = Unit {0}
+IsOfDrop fault.Memory = ⊥
 
 -- of one that reads record or snapshot n of vertex v
 abbrev pub IsOfLook : ℕ → ℕ → VaultFault → Type 0
@@ -171,6 +183,73 @@ Delivers plan k s (Err (fault.Output count)) u = PutsLine plan k s (Err put.Fail
 Delivers plan k s (Err (fault.Damaged v n)) u = u.outputs ≡ s.outputs
 Delivers plan k s (Err fault.Halted) u = u.outputs ≡ s.outputs
 Delivers plan k s (Err fault.Memory) u = KeepsOutputs s.outputs u.outputs
+
+-- ---- collection
+
+-- a place is reserved in the journal
+abbrev pub HasPlace : VaultTold → Type 0
+HasPlace s = 0 < s.held.places
+
+-- places may have been reserved, and all else is as it was
+pub record KeepsAllButPlaces (s u : VaultTold) : Type 0 where
+  pub numbers : numbers_of u ≡ numbers_of s
+  pub snaps : u.held.snaps ≡ s.held.snaps
+  pub ended : u.held.ended ≡ s.held.ended
+  pub halted : u.halted ≡ s.halted
+  pub started : u.started ≡ s.started
+  pub depot : u.depot ≡ s.depot
+  pub outputs : u.outputs ≡ s.outputs
+
+-- a collect of stream v
+abbrev pub Collects : PlanText → ℕ → VaultTold → Result ℕ VaultFault → VaultTold → Type 0
+Collects plan v s (Ok base) u =
+    (base ≡ need (plan_numbers plan) (numbers_of s).ledger v) × Enters plan s (Some (entry.Collected v)) None u
+Collects plan v s (Err fault) u = IsOfDrop fault × Stops plan s None fault u
+
+-- a trim of vertex v, which gives a stream
+abbrev pub Trims : PlanText → ℕ → VaultTold → Result ℕ VaultFault → VaultTold → Type 0
+Trims plan v s (Ok n) u =
+    (n ≡ trim_answer (plan_numbers plan) (numbers_of s).ledger v) × Enters plan s (Some (entry.Trimmed v)) None u
+Trims plan v s (Err fault) u = IsOfDrop fault × Stops plan s None fault u
+
+-- of the halves of a pass fewer than all were made before a fault, perhaps none
+abbrev pub PassesSome : PlanText → VaultTold → VaultFault → VaultTold → Type 0
+PassesSome plan s fault u =
+    (halves : ℕ) × (halves < all_halves (plan_numbers plan)) × Stops plan s (Some (entry.Pass halves)) fault u
+
+-- a pass
+abbrev pub Passes : PlanText → VaultTold → Result (Unit {0}) VaultFault → VaultTold → Type 0
+Passes plan s (Ok _) u = Enters plan s (Some (entry.Pass (all_halves (plan_numbers plan)))) None u
+Passes plan s (Err (fault.Store count)) u = PassesSome plan s (fault.Store count) u
+Passes plan s (Err (fault.Output count)) u = ⊥
+Passes plan s (Err (fault.Damaged v n)) u = ⊥
+Passes plan s (Err fault.Halted) u = WasHalted s u
+Passes plan s (Err fault.Memory) u = ⊥
+
+-- what a whole pass leaves: of each stream just what is required of it, and just the snapshots from which its vertex
+-- may start; a source's mark where it would start; the sinks as they were; and nothing counted as stored since
+pub record HasCollected (plan : PlanText) (s u : VaultTold) : Type 0 where
+  pub streams : (v : ℕ) → IsStream (plan_numbers plan) v
+      → IsPassed (plan_numbers plan) (numbers_of s).ledger (numbers_of u).ledger v
+  pub sinks : (k : ℕ) → IsSink (plan_numbers plan) k → durable_of u k ≡ durable_of s k
+  pub since : (numbers_of u).ledger.since ≡ 0
+
+-- whether the snapshot was stored at some time, as the one from the start was
+abbrev pub WasStored : VaultTold → ℕ → ℕ → Type 0
+WasStored u v n = (n ≡ 0) ⊎ (list_any (is_kept v n) (numbers_of u).journal ≡ true)
+
+-- nothing is gone that would be asked for if every vertex started again from what is stored: of a stream no element
+-- from the first needed on, which is at most the first required; of the snapshots of an operator only those below its
+-- start; and a source's mark isn't above its start
+pub record HasWhatIsNeeded (plan : PlanText) (u : VaultTold) : Type 0 where
+  pub needed : (v : ℕ) → IsStream (plan_numbers plan) v
+      → (durable_of u v).base ≤ need (plan_numbers plan) (numbers_of u).ledger v
+  pub required : (v : ℕ) → IsStream (plan_numbers plan) v
+      → need (plan_numbers plan) (numbers_of u).ledger v ≤ required (plan_numbers plan) (numbers_of u).ledger v
+  pub snapshots : (v n : ℕ) → IsOperator (plan_numbers plan) v → WasStored u v n
+      → (is_one_of n (durable_of u v).snaps ≡ true) ⊎ (n < start (plan_numbers plan) (numbers_of u).ledger v)
+  pub mark : (v : ℕ) → IsStream (plan_numbers plan) v → is_inner (vertex (plan_numbers plan) v).kind ≡ false
+      → (durable_of u v).mark ≤ start (plan_numbers plan) (numbers_of u).ledger v
 
 -- ---- the start
 

@@ -2,7 +2,7 @@
 use Rattle.std.specs.Prelude.{◌≡◌, ◌∷◌, []}
 use Rattle.ss_state.specs.Examples.{job_of_three}
 use Rattle.ss_state.specs.State.{Ledger, empty_row}
-use Rattle.ss_vault.specs.Answers.{flush_answer, keep_answer, take_answer}
+use Rattle.ss_vault.specs.Answers.{flush_answer, keep_answer, take_answer, trim_answer}
 use Rattle.ss_vault.specs.declared.answers.Flush.TheVariants as flush
 use Rattle.ss_vault.specs.declared.answers.Keep.TheVariants as keep
 use Rattle.ss_vault.specs.declared.answers.Take.TheVariants as take
@@ -47,6 +47,10 @@ KeepAnswers =
     (keep_answer job_of_three some_stored 1 2 ≡ keep.Known)
     × (keep_answer job_of_three some_stored 1 1 ≡ keep.Old 2)
     × (keep_answer job_of_three some_stored 1 3 ≡ keep.Kept)
+
+-- an operator's low-water mark, and a source's mark
+abbrev pub TrimAnswers : Type 0
+TrimAnswers = (trim_answer job_of_three some_stored 1 ≡ 2) × (trim_answer job_of_three some_stored 0 ≡ 3)
 
 -- a line that is stored, one that isn't yet, and none that is left
 abbrev pub TakeAnswers : Type 0

@@ -1,14 +1,17 @@
 //! What the laws below say, gathered: these functions do nothing when they run.
 ghost use Rattle.ss_plan.specs.Limit.{IsPlan};
 ghost use Rattle.ss_plan.specs.Plan.{PlanText};
-ghost use Rattle.ss_vault.specs.Facts.{PlanFacts, RunFacts, SnapshotFacts};
+ghost use Rattle.ss_vault.specs.Facts.{CollectionFacts, PlanFacts, RunFacts, SnapshotFacts};
 
 use ss_frames::{
     first_frames_are_empty, frames_have_codes, plans_have_numbers, within_is_may_accept,
 };
 use ss_meaning::meaning_is_whole;
 use ss_plan::{Plan, plans_mean_jobs, vertices_by_number};
-use ss_state::{entries_keep_sound, first_state_is_joint};
+use ss_state::{
+    entries_keep_sound, first_state_is_joint, marks_are_least, nothing_needed_is_gone,
+    pass_collects_exactly,
+};
 
 /// What the laws of runs say.
 pub(crate) fn run_facts()
@@ -16,6 +19,15 @@ pub(crate) fn run_facts()
 {
     entries_keep_sound();
     first_state_is_joint();
+}
+
+/// What the laws of collection say.
+pub(crate) fn collection_facts()
+    ensures { CollectionFacts }
+{
+    marks_are_least();
+    nothing_needed_is_gone();
+    pass_collects_exactly();
 }
 
 /// What the laws of plans say of this one: among others which of its vertices give streams, and which are operators or

@@ -18,7 +18,8 @@ impl<O: Outputs, D: Depot> Vault<O, D> {
     ghost use Rattle.ss_vault.specs.Told.{vault_told};
 
     /// Stores the elements of a batch that aren't yet: at most 64 elements of stream `v`, of which the first has
-    /// number `from`. Where memory is wanting or the depot fails, those before are stored.
+    /// number `from`. Nothing is stored where a pass is due first, for more than the job allows would be stored since
+    /// the last. Where memory is wanting or the depot fails, those before are stored.
     pub fn flush(
         &mut self,
         plan: &Plan,
@@ -37,9 +38,12 @@ impl<O: Outputs, D: Depot> Vault<O, D> {
         ensures outputs { (vault_told O.told D.told self.new).outputs ≡ (vault_told O.told D.told self.old).outputs }
     {
         plan_facts(plan);
-        let _since = self.numbers.since();
         if self.halted.is_some() {
             return Err(VaultFault::Halted);
+        }
+        let since = self.numbers.since();
+        if since + batch.len() as u64 > plan.job().collect_every() {
+            return Ok(Flush::PassDue { since });
         }
         let dur = self.numbers.dur(v);
         if from > dur {
@@ -63,6 +67,8 @@ impl<O: Outputs, D: Depot> Vault<O, D> {
         requires stream { IsStream (plan_numbers plan.now) v }
         requires some { 0 < length elements.now }
         requires few { length elements.now ≤ 64 }
+        requires since { self.old.numbers.numbers.ledger.since + length elements.now
+            ≤ (plan_numbers plan.now).collect_every }
         requires elements { AreNext plan.now v (vault_told O.told D.told self.old) elements.now }
         ensures sound { Sound plan.now (vault_told O.told D.told self.new) }
         ensures answer { Stores plan.now v (length elements.now)
@@ -71,7 +77,6 @@ impl<O: Outputs, D: Depot> Vault<O, D> {
     {
         run_facts();
         plan_facts(plan);
-        let _since = self.numbers.since();
         let dur = self.numbers.dur(v);
         let (count, stop) = append_all(&mut self.depot, v, dur, elements, &mut self.buffer);
         self.numbers.stored(v, count);

@@ -6,6 +6,7 @@
 #![tactic(auto)]
 
 mod answers;
+mod collecting;
 mod counts;
 mod examples;
 mod facts;
@@ -13,6 +14,7 @@ mod fault;
 mod flushing;
 mod keeping;
 mod numbers;
+mod passing;
 mod readers;
 mod reading;
 mod snapshots;

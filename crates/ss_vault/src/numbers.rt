@@ -1,68 +1,78 @@
 ghost use Rattle.std.specs.Prelude.{◌≡◌, ◌+◌, ◌<◌, ◌≤◌, ◌^◌, ◌==◌, ◌++◌, [], ◌∷◌, ℕ, length, map, not, IfOk, OnOk};
 ghost use Rattle.std.specs.Prelude.{IsTrue, nat_lt, position, unwrap_or, ◌↔◌, true};
-ghost use Rattle.std.specs.Prelude.{if◌then◌else◌};
+ghost use Rattle.std.specs.Prelude.{if◌then◌else◌, replicate};
 ghost use Rattle.std.specs.List.{list_all, list_any};
 ghost use Rattle.ss_state.specs.Journal.{enter, flushed, is_one_of, kept, took};
 ghost use Rattle.ss_state.specs.Acts.{flush_entry};
 ghost use Rattle.ss_state.specs.Numbers.{JobNumbers};
 ghost use Rattle.ss_state.specs.State.{row_at};
 ghost use Rattle.ss_state.specs.declared.entry.Entry.TheVariants as entry;
-ghost use Rattle.ss_water.specs.Graph.{is_sink};
+ghost use Rattle.ss_water.specs.Graph.{is_sink, is_stream};
+ghost use Rattle.ss_water.specs.Needs.{IsNeed};
 ghost use Rattle.ss_water.specs.Starts.{HasStart, RisesInN};
-ghost use Rattle.ss_vault.specs.Numbers.{AreFirstRows, IsFirstRow, spare};
-ghost use Rattle.ss_vault.specs.NumbersHeld.{put_snap};
+ghost use Rattle.ss_vault.specs.Numbers.{spare};
+ghost use Rattle.ss_vault.specs.NumbersHeld.{first_rows, put_snap, snaps_from_number};
 
 use crate::Memory;
 use ss_state::Entry;
-use ss_water::{Graph, Kind, SnapRow, start_of};
+use ss_water::{Graph, Kind, SnapRow, need, start_of};
 use std::alloc::Global;
 use std::marker::Model;
 
-/// What is kept of the numbers of one vertex. What a vertex of its kind doesn't have is 0, or no snapshot.
-#[derive(Drop)]
-pub(crate) struct Row {
-    base: u64,
-    dur: u64,
-    mark: u64,
-    taken: u64,
-    /// Whether it has no lines left to put, as each vertex but a sink has none from the start.
-    ended: bool,
-    /// Its stored snapshots, rising.
-    snaps: Vec<SnapRow>,
-}
-
-/// The numbers of a vault: a row of each vertex, and the journal of all that changed them.
+/// The numbers of a vault, each kind of them in a list by vertex, and the journal of all that changed them. What a
+/// vertex of its kind doesn't have is 0, or no snapshot.
 #[derive(Drop)]
 pub(crate) struct Numbers {
-    rows: Vec<Row>,
+    base: Vec<u64>,
+    dur: Vec<u64>,
+    mark: Vec<u64>,
+    taken: Vec<u64>,
+    /// Whether it has no lines left to put, as each vertex but a sink has none from the start.
+    ended: Vec<bool>,
+    /// Its stored snapshots, rising.
+    snaps: Vec<Vec<SnapRow>>,
     since: u64,
     journal: Vec<Entry>,
 }
 
 impl Model for Numbers {
-    ghost use Rattle.std.specs.Prelude.{◌≤◌, sum_by};
     ghost use Rattle.ss_vault.specs.NumbersHeld.{NumbersHeld};
 
     ghost Value = { NumbersHeld };
 
-    ghost use Rattle.ss_vault.specs.Numbers.{numbers_held};
+    ghost use Rattle.ss_vault.specs.Numbers.{AreNumbers, columns, numbers_held};
 
-    ghost view = { λ n. numbers_held n.rows.items n.since n.journal };
+    ghost view = { λ n. numbers_held
+        (columns n.base.items n.dur.items n.mark.items n.taken.items n.ended.items n.snaps.items)
+        n.since n.journal };
 
-    ghost invariant = { λ n. n.since ≤ sum_by (λ row. row.dur) n.rows.items };
+    ghost invariant = { λ n. AreNumbers
+        (columns n.base.items n.dur.items n.mark.items n.taken.items n.ended.items n.snaps.items) n.since };
 }
 
 impl Numbers {
     ghost use Rattle.ss_vault.specs.NumbersHeld.{AreFirst, all_stored, ended_held, greatest_within, places_held};
-    ghost use Rattle.ss_vault.specs.NumbersHeld.{put_snap, snaps_held};
+    ghost use Rattle.ss_vault.specs.NumbersHeld.{CanRecover, IsSameBesidesLedger, dropped, lifted, marked, put_snap};
+    ghost use Rattle.ss_vault.specs.NumbersHeld.{snaps_from_number, snaps_held, stored_of};
 
     /// The numbers of a job with these vertices, before anything is stored.
     pub(crate) fn new(alloc: Global, graph: &Graph) -> Result<Numbers, Memory>
         ensures { IfOk result (AreFirst graph.now) }
     {
-        let rows = first_rows(alloc, graph)?;
+        let count = graph.count() as usize;
+        let base = zeros(alloc, count)?;
+        let dur = zeros(alloc, count)?;
+        let mark = zeros(alloc, count)?;
+        let taken = zeros(alloc, count)?;
+        let ended = first_ended(alloc, graph)?;
+        let snaps = first_snaps(alloc, graph)?;
         Ok(Numbers {
-            rows,
+            base,
+            dur,
+            mark,
+            taken,
+            ended,
+            snaps,
             since: 0,
             journal: Vec::new(alloc),
         })
@@ -73,7 +83,7 @@ impl Numbers {
         requires { v < length self.now.numbers.ledger.rows }
         ensures { result ≡ (row_at self.now.numbers.ledger v).base }
     {
-        self.rows[v as usize].base
+        self.base[v as usize]
     }
 
     /// The number of the first element that isn't stored yet.
@@ -81,7 +91,7 @@ impl Numbers {
         requires { v < length self.now.numbers.ledger.rows }
         ensures { result ≡ (row_at self.now.numbers.ledger v).dur }
     {
-        self.rows[v as usize].dur
+        self.dur[v as usize]
     }
 
     /// Below which element the list of a source isn't asked any more.
@@ -89,7 +99,7 @@ impl Numbers {
         requires { v < length self.now.numbers.ledger.rows }
         ensures { result ≡ (row_at self.now.numbers.ledger v).mark }
     {
-        self.rows[v as usize].mark
+        self.mark[v as usize]
     }
 
     /// How many lines a sink has put.
@@ -97,7 +107,7 @@ impl Numbers {
         requires { k < length self.now.numbers.ledger.rows }
         ensures { result ≡ (row_at self.now.numbers.ledger k).taken }
     {
-        self.rows[k as usize].taken
+        self.taken[k as usize]
     }
 
     /// Whether a vertex has no lines left to put.
@@ -105,20 +115,19 @@ impl Numbers {
         requires { k < length self.now.numbers.ledger.rows }
         ensures { result ≡ ended_held self.now k }
     {
-        self.rows[k as usize].ended
+        self.ended[k as usize]
     }
 
     /// Whether no vertex has.
     pub(crate) fn all_ended(&self) -> bool
         ensures { IsTrue result ↔ ((k : ℕ) → k < length self.now.numbers.ledger.rows → ended_held self.now k ≡ true) }
     {
-        have_ended(self.rows.as_slice())
+        have_ended(self.ended.as_slice())
     }
 
     /// How many elements were stored since the last whole pass.
     pub(crate) fn since(&self) -> u64
-        ensures since { result ≡ self.now.numbers.ledger.since }
-        ensures few { result ≤ all_stored self.now.numbers.ledger }
+        ensures { result ≡ self.now.numbers.ledger.since }
     {
         self.since
     }
@@ -136,7 +145,7 @@ impl Numbers {
         ensures snaps { result.now ≡ snaps_held self.now v }
         ensures numbers { map (λ snap. snap.n) result.now ≡ (row_at self.now.numbers.ledger v).snaps }
     {
-        self.rows[v as usize].snaps.as_slice()
+        self.snaps[v as usize].as_slice()
     }
 
     /// Whether snapshot `n` of a vertex is stored.
@@ -177,8 +186,8 @@ impl Numbers {
         ensures ended { self.new.ended ≡ self.old.ended }
         ensures places { self.new.places ≡ self.old.places }
     {
-        let row = &mut self.rows[v as usize];
-        row.snaps.reserve(1)
+        let snaps = &mut self.snaps[v as usize];
+        snaps.reserve(1)
     }
 
     /// Reserves a place in the journal and one behind the snapshots of a vertex.
@@ -204,8 +213,7 @@ impl Numbers {
         ensures snaps { self.new.snaps ≡ self.old.snaps }
         ensures ended { self.new.ended ≡ self.old.ended }
     {
-        let row = &mut self.rows[v as usize];
-        row.dur += count;
+        self.dur[v as usize] += count;
         self.since += count;
         self.journal.push_reserved(Entry::Flushed { v, count });
     }
@@ -236,8 +244,8 @@ impl Numbers {
             ≡ (if w == v then put_snap snap (snaps_held self.old v) else snaps_held self.old w) }
         ensures ended { self.new.ended ≡ self.old.ended }
     {
-        let row = &mut self.rows[v as usize];
-        put_in_place(&mut row.snaps, snap);
+        let snaps = &mut self.snaps[v as usize];
+        put_in_place(snaps, snap);
         self.journal.push_reserved(Entry::Kept { v, n: snap.n });
     }
 
@@ -251,45 +259,147 @@ impl Numbers {
         ensures snaps { self.new.snaps ≡ self.old.snaps }
         ensures ended { (w : ℕ) → ended_held self.new w ≡ (if w == k then ended else ended_held self.old w) }
     {
-        let row = &mut self.rows[k as usize];
-        row.taken += 1;
-        row.ended = ended;
+        self.taken[k as usize] += 1;
+        self.ended[k as usize] = ended;
         self.journal.push_reserved(Entry::Took { k });
     }
-}
 
-/// The rows of vertices before anything is stored.
-fn first_rows(alloc: Global, graph: &Graph) -> Result<Vec<Row>, Memory>
-    ensures { IfOk result (λ rows. AreFirstRows graph.now rows.items) }
-{
-    let mut rows = Vec::new(alloc);
-    for v in 0..graph.count() {
-        let row = first_row(alloc, graph.node(v).kind)?;
-        rows.push(row)?;
+    /// The first element of stream `v` that one of its readers asks for.
+    pub(crate) fn need(&self, graph: &Graph, v: u32) -> u64
+        requires count { length graph.now ≡ length self.now.numbers.ledger.rows }
+        requires recovered { CanRecover graph.now self.now }
+        requires stream { is_stream graph.now v ≡ true }
+        ensures { IsNeed graph.now (stored_of self.now) v result }
+    {
+        need(
+            graph,
+            self.snaps.as_slice(),
+            self.dur.as_slice(),
+            self.taken.as_slice(),
+            v,
+        )
     }
-    Ok(rows)
+
+    /// Tells that the elements of stream `v` below number `base` were dropped, with no entry in the journal.
+    pub(crate) fn collected(&mut self, v: u32, base: u64)
+        requires { v < length self.old.numbers.ledger.rows }
+        ensures ledger { self.new.numbers.ledger ≡ lifted self.old.numbers.ledger v base }
+        ensures besides { IsSameBesidesLedger self.old self.new }
+        ensures snaps { self.new.snaps ≡ self.old.snaps }
+    {
+        self.base[v as usize] = base;
+        self.dur[v as usize] = self.dur[v as usize].max(base);
+    }
+
+    /// Tells that the snapshots of vertex `v` below number `low` were dropped, with no entry in the journal.
+    pub(crate) fn trimmed(&mut self, v: u32, low: u64)
+        requires { v < length self.old.numbers.ledger.rows }
+        ensures ledger { self.new.numbers.ledger ≡ dropped self.old.numbers.ledger v low }
+        ensures besides { IsSameBesidesLedger self.old self.new }
+        ensures snaps { (w : ℕ) → snaps_held self.new w
+            ≡ (if w == v then snaps_from_number low (snaps_held self.old v) else snaps_held self.old w) }
+    {
+        let snaps = &mut self.snaps[v as usize];
+        drop_below(snaps, low);
+    }
+
+    /// Tells that the list of source `v` is asked for no element any more that is stored, with no entry in the
+    /// journal.
+    pub(crate) fn marked(&mut self, v: u32)
+        requires { v < length self.old.numbers.ledger.rows }
+        ensures ledger { self.new.numbers.ledger ≡ marked self.old.numbers.ledger v }
+        ensures besides { IsSameBesidesLedger self.old self.new }
+        ensures snaps { self.new.snaps ≡ self.old.snaps }
+    {
+        self.mark[v as usize] = self.dur[v as usize];
+    }
+
+    /// Counts anew how many elements are stored, as behind a whole pass, with no entry in the journal.
+    pub(crate) fn count_anew(&mut self)
+        ensures ledger { self.new.numbers.ledger ≡ record self.old.numbers.ledger { since = 0 } }
+        ensures besides { IsSameBesidesLedger self.old self.new }
+        ensures snaps { self.new.snaps ≡ self.old.snaps }
+    {
+        self.since = 0;
+    }
+
+    /// Puts an entry of what was told already into the journal.
+    pub(crate) fn enter(&mut self, entry: Entry)
+        requires { 0 < self.old.places }
+        ensures ledger { self.new.numbers.ledger ≡ self.old.numbers.ledger }
+        ensures journal { self.new.numbers.journal ≡ self.old.numbers.journal ++ entry ∷ [] }
+        ensures snaps { self.new.snaps ≡ self.old.snaps }
+        ensures ended { self.new.ended ≡ self.old.ended }
+    {
+        self.journal.push_reserved(entry);
+    }
 }
 
-/// The row of a vertex before anything is stored.
-fn first_row(alloc: Global, kind: Kind) -> Result<Row, Memory>
-    ensures { IfOk result (IsFirstRow kind) }
+/// So many zeros.
+fn zeros(alloc: Global, count: usize) -> Result<Vec<u64>, Memory>
+    ensures { IfOk result (λ zeros. zeros.items ≡ replicate count 0) }
+{
+    vec![in alloc; 0; count]
+}
+
+/// Whether a vertex of this kind has no lines to put.
+fn has_none(kind: Kind) -> bool
+    ensures { result ≡ not (is_sink kind) }
+{
+    kind != Kind::Sink
+}
+
+/// Whether vertices have no lines left to put, before anything is stored.
+fn first_ended(alloc: Global, graph: &Graph) -> Result<Vec<bool>, Memory>
+    ensures { IfOk result (λ ended. ended.items ≡ map (λ node. not (is_sink node.kind)) graph.now) }
+{
+    let mut ended = Vec::new(alloc);
+    for v in 0..graph.count() {
+        ended.push(has_none(graph.node(v).kind))?;
+    }
+    Ok(ended)
+}
+
+/// The stored snapshots of vertices before anything else is stored.
+fn first_snaps(alloc: Global, graph: &Graph) -> Result<Vec<Vec<SnapRow>>, Memory>
+    ensures { IfOk result (λ snaps. map (λ row. row.items) snaps.items ≡ map (λ node. first_rows node.kind) graph.now) }
 {
     let mut snaps = Vec::new(alloc);
+    for v in 0..graph.count() {
+        let row = first_row(alloc, graph.node(v).kind)?;
+        snaps.push(row)?;
+    }
+    Ok(snaps)
+}
+
+/// The stored snapshots of a vertex before anything else is stored.
+fn first_row(alloc: Global, kind: Kind) -> Result<Vec<SnapRow>, Memory>
+    ensures { IfOk result (λ row. row.items ≡ first_rows kind) }
+{
+    let mut row = Vec::new(alloc);
     if kind == Kind::Inner {
-        snaps.push(SnapRow {
+        row.push(SnapRow {
             n: 0,
             out: 0,
             pos: [0; 8],
         })?;
     }
-    Ok(Row {
-        base: 0,
-        dur: 0,
-        mark: 0,
-        taken: 0,
-        ended: kind != Kind::Sink,
-        snaps,
-    })
+    Ok(row)
+}
+
+/// Drops the snapshots below this number.
+fn drop_below(snaps: &mut Vec<SnapRow>, low: u64)
+    ensures { snaps.new.items ≡ snaps_from_number low snaps.old.items }
+{
+    let mut kept = 0;
+    for place in 0..snaps.len() {
+        let snap = snaps[place];
+        if snap.n >= low {
+            snaps[kept] = snap;
+            kept += 1;
+        }
+    }
+    snaps.truncate(kept);
 }
 
 /// Puts a snapshot in its place among rising ones.
@@ -324,8 +434,8 @@ fn is_among(snaps: &[SnapRow], n: u64) -> bool
 }
 
 /// Whether none of these vertices has lines left to put.
-fn have_ended(rows: &[Row]) -> bool
-    ensures { result ≡ list_all (λ row. row.ended) rows.now }
+fn have_ended(ended: &[bool]) -> bool
+    ensures { result ≡ list_all (λ has_ended. has_ended) ended.now }
 {
-    rows.iter().all(|row| row.ended)
+    ended.iter().all(|has_ended| *has_ended)
 }

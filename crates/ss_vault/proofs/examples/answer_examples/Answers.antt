@@ -13,3 +13,7 @@ returns-clause-keep c = (refl, refl, refl)
 pub returns-clause-take : goal.returns-clause-take
 unfolding size
 returns-clause-take c = (refl, refl, refl)
+
+pub returns-clause-trim : goal.returns-clause-trim
+unfolding low out snap_within
+returns-clause-trim c = (refl, refl)

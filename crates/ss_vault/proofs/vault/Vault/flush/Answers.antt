@@ -2,12 +2,12 @@ use Rattle.std.proofs.Common.{◌≡◌, ◌∙◌, ◌≤◌, ◌+◌, ◌-◌,
 use Rattle.std.proofs.lemmas.List.{length-drop, length-take, take_all}
 use Rattle.ss_elem.specs.declared.element.Element.{Element}
 use Rattle.ss_frames.specs.Plans.{plan_numbers}
+use Rattle.ss_job.specs.JobText.{JobText}
 use Rattle.ss_state.specs.State.{VaultNumbers, row_at}
-use Rattle.ss_vault.specs.NumbersHeld.{all_stored}
 use Rattle.ss_vault.specs.Steps.{AreNext}
 use Rattle.ss_vault.specs.Told.{VaultTold, durable_of, numbers_of}
 use Rattle.ss_vault.proofs.Behind.{flushes_behind, none_of}
-use Rattle.ss_vault.proofs.FlushAnswers.{batch_next, flush_more, flush_stored, never_due}
+use Rattle.ss_vault.proofs.FlushAnswers.{batch_next, flush_more, flush_stored, none_is_due}
 use Rattle.ss_vault.proofs.Looking.{placed}
 use Rattle.ss_vault.proofs.vault.Vault.flush.Goals as goal
 
@@ -17,9 +17,11 @@ returns-then-is_err-clause-answer g c =
     let s : VaultTold = record { held = v.numbers; halted = v.halted; started = v.started; depot = g.D.Depot.told v.depot; outputs = g.O.Outputs.told v.outputs } in
     let plan = c.args.plan.now in
     let going : s.halted ≡ None = none_of s.halted (sym c.is_some.ensures ∙ c.if-is_some.false) in
-    let since : (numbers_of s).ledger.since ≤ all_stored (numbers_of s).ledger =
-    let e = c.since-since.ensures.since in let h = c.since-since.ensures.few in omega (arith, e, h) in
-    let none_due = never_due plan c.plan_facts.ensures s (length c.args.batch.now) c.requires.sound c.requires.few since in
+    let limit : c.collect_every.result ≡ (plan_numbers plan).collect_every =
+    c.collect_every.ensures ∙ ap (λ (job : JobText). job.collect_every) c.job.ensures.job ∙ sym c.plan_facts.ensures.collect_every in
+    let few : (numbers_of s).ledger.since + length c.args.batch.now ≤ (plan_numbers plan).collect_every =
+    let e = c.since-since.ensures in let h = c.if-since-batch.false in omega (arith, e, h, limit) in
+    let none_due = none_is_due (plan_numbers plan) (numbers_of s).ledger (length c.args.batch.now) few in
     let next : c.args.from ≤ (durable_of s c.args.v).dur = let e = c.dur-dur.ensures in let h = c.if-from-dur.false in omega (arith, e, h) in
     let m : VaultTold = record s { held = c.reserve_entry.new.self } in
     let first = placed plan s c.reserve_entry.new.self c.requires.sound going c.reserve_entry.ensures.numbers c.reserve_entry.ensures.snaps c.reserve_entry.ensures.ended in
@@ -51,9 +53,6 @@ store-requires-clause-elements g c =
     let s : VaultTold = record { held = v.numbers; halted = v.halted; started = v.started; depot = g.D.Depot.told v.depot; outputs = g.O.Outputs.told v.outputs } in
     let plan = c.args.plan.now in
     let going : s.halted ≡ None = none_of s.halted (sym c.is_some.ensures ∙ c.if-is_some.false) in
-    let since : (numbers_of s).ledger.since ≤ all_stored (numbers_of s).ledger =
-    let e = c.since-since.ensures.since in let h = c.since-since.ensures.few in omega (arith, e, h) in
-    let none_due = never_due plan c.plan_facts.ensures s (length c.args.batch.now) c.requires.sound c.requires.few since in
     let next : c.args.from ≤ (durable_of s c.args.v).dur = let e = c.dur-dur.ensures in let h = c.if-from-dur.false in omega (arith, e, h) in
     let m : VaultTold = record s { held = c.reserve_entry.new.self } in
     let first = placed plan s c.reserve_entry.new.self c.requires.sound going c.reserve_entry.ensures.numbers c.reserve_entry.ensures.snaps c.reserve_entry.ensures.ended in
@@ -77,9 +76,11 @@ returns-clause-answer g c =
     let s : VaultTold = record { held = v.numbers; halted = v.halted; started = v.started; depot = g.D.Depot.told v.depot; outputs = g.O.Outputs.told v.outputs } in
     let plan = c.args.plan.now in
     let going : s.halted ≡ None = none_of s.halted (sym c.is_some.ensures ∙ c.if-is_some.false) in
-    let since : (numbers_of s).ledger.since ≤ all_stored (numbers_of s).ledger =
-    let e = c.since-since.ensures.since in let h = c.since-since.ensures.few in omega (arith, e, h) in
-    let none_due = never_due plan c.plan_facts.ensures s (length c.args.batch.now) c.requires.sound c.requires.few since in
+    let limit : c.collect_every.result ≡ (plan_numbers plan).collect_every =
+    c.collect_every.ensures ∙ ap (λ (job : JobText). job.collect_every) c.job.ensures.job ∙ sym c.plan_facts.ensures.collect_every in
+    let few : (numbers_of s).ledger.since + length c.args.batch.now ≤ (plan_numbers plan).collect_every =
+    let e = c.since-since.ensures in let h = c.if-since-batch.false in omega (arith, e, h, limit) in
+    let none_due = none_is_due (plan_numbers plan) (numbers_of s).ledger (length c.args.batch.now) few in
     let next : c.args.from ≤ (durable_of s c.args.v).dur = let e = c.dur-dur.ensures in let h = c.if-from-dur.false in omega (arith, e, h) in
     let m : VaultTold = record s { held = c.reserve_entry.new.self } in
     let first = placed plan s c.reserve_entry.new.self c.requires.sound going c.reserve_entry.ensures.numbers c.reserve_entry.ensures.snaps c.reserve_entry.ensures.ended in

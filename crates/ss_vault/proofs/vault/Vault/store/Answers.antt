@@ -1,9 +1,8 @@
-use Rattle.std.proofs.Common.{◌≡◌, ◌∙◌, ◌≤◌, ◌+◌, ℕ, Some, Ok, length, refl, sym, subst, arith}
+use Rattle.std.proofs.Common.{◌≡◌, ◌∙◌, ◌+◌, ℕ, Some, Ok, length, refl, sym, subst, arith}
 use Rattle.ss_frames.specs.Plans.{plan_numbers}
 use Rattle.ss_vault.specs.Devices.{Appended, StopsAppending}
-use Rattle.ss_vault.specs.NumbersHeld.{all_stored}
 use Rattle.ss_vault.specs.Steps.{Stores}
-use Rattle.ss_vault.specs.Told.{VaultTold, durable_of, numbers_of}
+use Rattle.ss_vault.specs.Told.{VaultTold, durable_of}
 use Rattle.ss_vault.specs.declared.answers.Flush.TheVariants as flush
 use Rattle.ss_vault.proofs.Flushed.{stored_few}
 use Rattle.ss_vault.proofs.Stored.{Touched, next_firsts, next_is, stored_all, stored_some}
@@ -46,10 +45,8 @@ returns-in-None-clause-sound g c =
       outputs = refl;
       appended = appended;
     } in
-    let since : (numbers_of s).ledger.since ≤ all_stored (numbers_of s).ledger =
-    let e = c.since-since.ensures.since in let h = c.since-since.ensures.few in omega (arith, e, h) in
     let stops : count ≡ length c.args.elements.now = subst (λ o. StopsAppending s.depot u.depot count (length c.args.elements.now) o) c.in-None.is c.append_all-count.ensures.1 in
-    (stored_all c.run_facts.ensures c.args.plan.now c.plan_facts.ensures s u c.args.v count c.args.elements.now c.requires.sound c.requires.stream c.requires.elements c.requires.few since touched c.requires.going c.requires.going stops).0
+    (stored_all c.run_facts.ensures c.args.plan.now c.plan_facts.ensures s u c.args.v count c.args.elements.now c.requires.sound c.requires.stream c.requires.elements c.requires.few c.requires.since touched c.requires.going c.requires.going stops).0
 
 pub returns-in-None-clause-answer : goal.returns-in-None-clause-answer
 returns-in-None-clause-answer g c =
@@ -67,10 +64,8 @@ returns-in-None-clause-answer g c =
       outputs = refl;
       appended = appended;
     } in
-    let since : (numbers_of s).ledger.since ≤ all_stored (numbers_of s).ledger =
-    let e = c.since-since.ensures.since in let h = c.since-since.ensures.few in omega (arith, e, h) in
     let stops : count ≡ length c.args.elements.now = subst (λ o. StopsAppending s.depot u.depot count (length c.args.elements.now) o) c.in-None.is c.append_all-count.ensures.1 in
-    let answer = (stored_all c.run_facts.ensures c.args.plan.now c.plan_facts.ensures s u c.args.v count c.args.elements.now c.requires.sound c.requires.stream c.requires.elements c.requires.few since touched c.requires.going c.requires.going stops).1 in
+    let answer = (stored_all c.run_facts.ensures c.args.plan.now c.plan_facts.ensures s u c.args.v count c.args.elements.now c.requires.sound c.requires.stream c.requires.elements c.requires.few c.requires.since touched c.requires.going c.requires.going stops).1 in
     subst (λ (n : ℕ). Stores c.args.plan.now c.args.v (length c.args.elements.now) s (Ok (flush.Flushed count (n + count))) u) (sym c.dur-dur.ensures) answer
 
 pub returns-in-Some-clause-sound : goal.returns-in-Some-clause-sound
@@ -89,10 +84,8 @@ returns-in-Some-clause-sound g c =
       outputs = refl;
       appended = appended;
     } in
-    let since : (numbers_of s).ledger.since ≤ all_stored (numbers_of s).ledger =
-    let e = c.since-since.ensures.since in let h = c.since-since.ensures.few in omega (arith, e, h) in
     let stops : StopsAppending s.depot u.depot count (length c.args.elements.now) (Some c.in-Some.fault) = subst (λ o. StopsAppending s.depot u.depot count (length c.args.elements.now) o) c.in-Some.is c.append_all-count.ensures.1 in
-    (stored_some c.run_facts.ensures c.args.plan.now c.plan_facts.ensures s u c.args.v count c.args.elements.now c.in-Some.fault c.requires.sound c.requires.stream c.requires.elements c.requires.few since touched c.requires.going c.halts-self.ensures stops).0
+    (stored_some c.run_facts.ensures c.args.plan.now c.plan_facts.ensures s u c.args.v count c.args.elements.now c.in-Some.fault c.requires.sound c.requires.stream c.requires.elements c.requires.few c.requires.since touched c.requires.going c.halts-self.ensures stops).0
 
 pub returns-in-Some-clause-answer : goal.returns-in-Some-clause-answer
 returns-in-Some-clause-answer g c =
@@ -110,7 +103,5 @@ returns-in-Some-clause-answer g c =
       outputs = refl;
       appended = appended;
     } in
-    let since : (numbers_of s).ledger.since ≤ all_stored (numbers_of s).ledger =
-    let e = c.since-since.ensures.since in let h = c.since-since.ensures.few in omega (arith, e, h) in
     let stops : StopsAppending s.depot u.depot count (length c.args.elements.now) (Some c.in-Some.fault) = subst (λ o. StopsAppending s.depot u.depot count (length c.args.elements.now) o) c.in-Some.is c.append_all-count.ensures.1 in
-    (stored_some c.run_facts.ensures c.args.plan.now c.plan_facts.ensures s u c.args.v count c.args.elements.now c.in-Some.fault c.requires.sound c.requires.stream c.requires.elements c.requires.few since touched c.requires.going c.halts-self.ensures stops).1
+    (stored_some c.run_facts.ensures c.args.plan.now c.plan_facts.ensures s u c.args.v count c.args.elements.now c.in-Some.fault c.requires.sound c.requires.stream c.requires.elements c.requires.few c.requires.since touched c.requires.going c.halts-self.ensures stops).1
