@@ -7,3 +7,4 @@ pub mod Snaps
 pub mod Loads
 pub mod Replies
 pub mod Inputs
+pub mod Drops

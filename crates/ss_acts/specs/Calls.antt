@@ -1,10 +1,10 @@
 -- What each act function answers, and what it leaves. `inst`, `tail` and `s` are what the parts tell before the call,
 -- and `new`, `rest` and `u` after it.
 use Rattle.std.specs.Prelude.{◌≡◌, ℕ, true, false, None, Result, Ok, Err}
-use Rattle.ss_acts.specs.Faults.{Fails, FailsToRead, FailsToFlush, RefusesRead}
+use Rattle.ss_acts.specs.Faults.{Fails, FailsToRead, FailsToFlush, FailsToDrop, FailsToPass, RefusesRead}
 use Rattle.ss_acts.specs.Leaves.{LeavesInst, LeavesBoth, LeavesVault, LeavesTailAndVault, Goes, Keeps}
 use Rattle.ss_acts.specs.Readings.{writing, tail_reading, must_ask, vault_reading, list_reading, snapping, loading}
-use Rattle.ss_acts.specs.Readings.{flushing, taking}
+use Rattle.ss_acts.specs.Readings.{flushing, taking, collecting, trimming, passing}
 use Rattle.ss_acts.specs.declared.fault.EngineFault.{EngineFault}
 use Rattle.ss_acts.specs.declared.fault.EngineFault.TheVariants as fault
 use Rattle.ss_acts.specs.declared.fault.ReadPart.{ReadPart}
@@ -76,3 +76,18 @@ abbrev pub TakesLine : PlanText → ℕ → VaultTold → Result Outcome EngineF
 TakesLine plan k s (Ok outcome) u = LeavesVault (taking plan k s) u outcome × Goes s u
 TakesLine plan k s (Err f) u =
     Fails (IsOfPut (input (vertex (plan_numbers plan) k) 0) (durable_of s k).taken) plan s None f u
+
+-- a collect of the stream of v
+abbrev pub CollectsStream : PlanText → ℕ → VaultTold → Result Outcome EngineFault → VaultTold → Type 0
+CollectsStream plan v s (Ok outcome) u = LeavesVault (collecting plan v s) u outcome × Goes s u
+CollectsStream plan v s (Err f) u = FailsToDrop plan s f u
+
+-- a trim of v
+abbrev pub TrimsVertex : PlanText → ℕ → VaultTold → Result Outcome EngineFault → VaultTold → Type 0
+TrimsVertex plan v s (Ok outcome) u = LeavesVault (trimming plan v s) u outcome × Goes s u
+TrimsVertex plan v s (Err f) u = FailsToDrop plan s f u
+
+-- a pass
+abbrev pub PassesAll : PlanText → VaultTold → Result Outcome EngineFault → VaultTold → Type 0
+PassesAll plan s (Ok outcome) u = LeavesVault (passing plan s) u outcome × Goes s u
+PassesAll plan s (Err f) u = FailsToPass plan s f u

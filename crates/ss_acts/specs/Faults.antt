@@ -15,7 +15,7 @@ use Rattle.ss_state.specs.Step.{has_passed}
 use Rattle.ss_state.specs.Tails.{batch_from, batch_len}
 use Rattle.ss_state.specs.declared.entry.Entry.{Entry}
 use Rattle.ss_tail.specs.Held.{TailHeld}
-use Rattle.ss_vault.specs.Calls.{WasHalted, Stops, StoresSome, IsOfLook}
+use Rattle.ss_vault.specs.Calls.{WasHalted, Stops, StoresSome, PassesSome, IsOfDrop, IsOfLook, KeepsAllButPlaces}
 use Rattle.ss_vault.specs.Told.{VaultTold, numbers_of}
 use Rattle.ss_vault.specs.declared.fault.VaultFault.{VaultFault}
 use Rattle.ss_vault.specs.declared.fault.VaultFault.TheVariants as vault
@@ -83,3 +83,19 @@ FailsToFlush plan v most tail s (fault.Vault vault.Memory) u = ⊥
 FailsToFlush plan v most tail s (fault.Full w reached) u = ⊥
 FailsToFlush plan v most tail s fault.Memory u =
     StoresSome plan v (batch_from tail.numbers) (batch_len tail.numbers most) s vault.Memory u
+
+-- a collect or a trim met a fault of the store and dropped nothing, or memory was wanting before it was begun
+abbrev pub FailsToDrop : PlanText → VaultTold → EngineFault → VaultTold → Type 0
+FailsToDrop plan s (fault.Vault f) u = Fails IsOfDrop plan s None (fault.Vault f) u
+FailsToDrop plan s (fault.Full v reached) u = ⊥
+FailsToDrop plan s fault.Memory u = KeepsAllButPlaces s u
+
+-- a pass met a fault of the store when it had made some of its halves, or memory was wanting before it was begun
+abbrev pub FailsToPass : PlanText → VaultTold → EngineFault → VaultTold → Type 0
+FailsToPass plan s (fault.Vault (vault.Store count)) u = PassesSome plan s (vault.Store count) u
+FailsToPass plan s (fault.Vault (vault.Output count)) u = ⊥
+FailsToPass plan s (fault.Vault (vault.Damaged v n)) u = ⊥
+FailsToPass plan s (fault.Vault vault.Halted) u = WasHalted s u
+FailsToPass plan s (fault.Vault vault.Memory) u = ⊥
+FailsToPass plan s (fault.Full v reached) u = ⊥
+FailsToPass plan s fault.Memory u = KeepsAllButPlaces s u

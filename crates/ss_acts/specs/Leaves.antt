@@ -1,12 +1,16 @@
 -- What an act leaves of the parts that it touches, as its reading over their numbers says, and what stays.
-use Rattle.std.specs.Prelude.{◌≡◌, ◌≢◌, ℕ, Bool, true, false, List, Some, None}
+use Rattle.std.specs.Prelude.{◌≡◌, ◌≢◌, ℕ, Bool, true, false, List, Some, None, Result, Ok, Err}
+use Rattle.ss_acts.specs.declared.fault.EngineFault.{EngineFault}
+use Rattle.ss_acts.specs.declared.fault.EngineFault.TheVariants as fault
 use Rattle.ss_fail.specs.declared.outcome.Outcome.{Outcome}
 use Rattle.ss_plan.specs.Plan.{PlanText}
 use Rattle.ss_state.specs.Acts.{InstStep, InstAndTailStep, TailStep, TailAndVaultStep, VaultStep}
 use Rattle.ss_tail.specs.Held.{TailHeld}
+use Rattle.ss_vault.specs.Calls.{HasPlace, KeepsAllButPlaces, WasHalted}
 use Rattle.ss_vault.specs.Counts.{NoneFell}
 use Rattle.ss_vault.specs.Sound.{sink_file}
 use Rattle.ss_vault.specs.Told.{VaultTold, numbers_of, counts_of}
+use Rattle.ss_vault.specs.declared.fault.VaultFault.TheVariants as vault
 use Rattle.ss_vertex.specs.Inst.{InstState, inst_numbers}
 
 -- an act that touches a replica has left this one
@@ -52,3 +56,20 @@ PutsToSinksAlone plan s u =
 pub record AsksVault (due : Bool) (s : VaultTold) (made : Bool) (u : VaultTold) : Type 0 where
   pub untouched : due ≡ false → u ≡ s
   pub going : due ≡ true → made ≡ true → s.halted ≡ None
+
+-- a vault that goes on has a place in its journal, and else is as it was
+pub record HasPlaceNow (s u : VaultTold) : Type 0 where
+  pub going : s.halted ≡ None
+  pub place : HasPlace u
+  pub same : KeepsAllButPlaces s u
+
+-- a place was reserved in the journal of a vault that goes on, or wasn't, for want of memory
+abbrev pub IsReadied : VaultTold → Result (Unit {0}) EngineFault → VaultTold → Type 0
+IsReadied s (Ok _) u = HasPlaceNow s u
+IsReadied s (Err (fault.Vault (vault.Store count))) u = ⊥
+IsReadied s (Err (fault.Vault (vault.Output count))) u = ⊥
+IsReadied s (Err (fault.Vault (vault.Damaged v n))) u = ⊥
+IsReadied s (Err (fault.Vault vault.Halted)) u = WasHalted s u
+IsReadied s (Err (fault.Vault vault.Memory)) u = ⊥
+IsReadied s (Err (fault.Full v reached)) u = ⊥
+IsReadied s (Err fault.Memory) u = KeepsAllButPlaces s u

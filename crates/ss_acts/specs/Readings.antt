@@ -5,6 +5,7 @@ use Rattle.ss_frames.specs.Plans.{plan_numbers}
 use Rattle.ss_plan.specs.Plan.{PlanText}
 use Rattle.ss_state.specs.Acts.{InstStep, InstAndTailStep, TailAndVaultStep, VaultStep, write_act, needs_vault}
 use Rattle.ss_state.specs.Acts.{read_tail, read_vault, read_list, snap_act, load_act, flush_act, take_act}
+use Rattle.ss_state.specs.Acts.{collect_act, trim_act, pass_act}
 use Rattle.ss_state.specs.Numbers.{VertexNumbers, is_inner, mlen, wanted_number}
 use Rattle.ss_state.specs.State.{InstNumbers}
 use Rattle.ss_state.specs.Step.{wanted_vertex}
@@ -87,3 +88,15 @@ flushing plan v count tail vault = flush_act (plan_numbers plan) v count tail.nu
 -- a take of sink k
 abbrev pub taking : PlanText → ℕ → VaultTold → VaultStep
 taking plan k vault = take_act (plan_numbers plan) k (numbers_of vault)
+
+-- a collect of the stream of v
+abbrev pub collecting : PlanText → ℕ → VaultTold → VaultStep
+collecting plan v vault = collect_act (plan_numbers plan) v (numbers_of vault)
+
+-- a trim of v
+abbrev pub trimming : PlanText → ℕ → VaultTold → VaultStep
+trimming plan v vault = trim_act (plan_numbers plan) v (numbers_of vault)
+
+-- a pass
+abbrev pub passing : PlanText → VaultTold → VaultStep
+passing plan vault = pass_act (plan_numbers plan) (numbers_of vault)

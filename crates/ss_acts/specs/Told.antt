@@ -1,5 +1,5 @@
 -- What an act comes to, from what a part answered.
-use Rattle.std.specs.Prelude.{ℕ}
+use Rattle.std.specs.Prelude.{ℕ, Bool, true, false}
 use Rattle.ss_fail.specs.declared.outcome.Outcome.{Outcome}
 use Rattle.ss_fail.specs.declared.outcome.Outcome.TheVariants as outcome
 use Rattle.ss_tail.specs.Held.{TailHeld, begun_at, noted, trimmed}
@@ -56,3 +56,8 @@ abbrev pub take_outcome : Take → Outcome
 take_outcome take.Ended = outcome.Ended
 take_outcome (take.NotYet dur) = outcome.WaitDur dur
 take_outcome (take.Took n) = outcome.Took n
+
+-- of a trim of an operator, or of a source
+abbrev pub trim_outcome : Bool → ℕ → Outcome
+trim_outcome true n = outcome.Low n
+trim_outcome false n = outcome.Mark n

@@ -2,6 +2,7 @@
 #![tactic(auto)]
 
 mod asking;
+mod collecting;
 mod facts;
 mod fault;
 mod flushing;
@@ -13,6 +14,7 @@ mod snapping;
 mod taking;
 mod writing;
 
+pub use collecting::{act_collect, act_pass, act_trim};
 pub use facts::act_facts;
 pub use fault::{EngineFault, ReadPart};
 pub use flushing::act_flush;

@@ -15,7 +15,6 @@ use Rattle.ss_frames.specs.Plans.{plan_numbers}
 use Rattle.ss_meaning.specs.Meaning.{meaning}
 use Rattle.ss_plan.specs.Plan.{PlanText, vertices_of}
 use Rattle.ss_state.specs.Acts.{crash_act, lose_act, write_act, load_act, snap_act, take_act}
-use Rattle.ss_state.specs.Laws.{ActsKeepJoint, FaultsKeepJoint}
 use Rattle.ss_state.specs.Numbers.{JobNumbers, IsSink, IsStream, vertex, input}
 use Rattle.ss_state.specs.State.{State, TailNumbers, InstNumbers, tail_at, inst_at, durable_at}
 use Rattle.ss_state.specs.Step.{IsReplica}
@@ -28,6 +27,7 @@ use Rattle.ss_vault.specs.declared.fault.VaultFault.{VaultFault}
 use Rattle.ss_vertex.specs.Inst.{InstState, inst_numbers}
 use Rattle.ss_vertex.specs.Standing.{InstStands}
 use Rattle.ss_engine.specs.Applies.{AppliesJointly}
+use Rattle.ss_engine.specs.Laws.{ActLaws}
 use Rattle.ss_engine.specs.Joint.{Joint}
 use Rattle.ss_engine.specs.Told.{PlantTold, inst_of, state_of, tail_of}
 use Rattle.ss_engine.proofs.Causes.{fails_keeps, fails_is_cause}
@@ -35,15 +35,15 @@ use Rattle.ss_engine.proofs.Made.{goes_on, keeps_all, not_called, puts_nothing}
 use Rattle.ss_engine.proofs.Parts.{replace_tail, replace_inst, replace_vault, stands_at, inst_is, tail_is}
 use Rattle.ss_engine.proofs.Steps.{inst_made, both_made, both_met, replace_both, tail_made, vault_made, vault_met}
 
-pub crash_applies : ActsKeepJoint → (p : PlantTold) (v r : ℕ) (old new : InstState) (o : Outcome)
+pub crash_applies : ActLaws → (p : PlantTold) (v r : ℕ) (old new : InstState) (o : Outcome)
     → Joint p → IsReplica (plan_numbers p.plan) v r → inst_of p v r ≡ Some old
     → new.v ≡ old.v → ((plan : PlanText) → InstStands plan old → InstStands plan new)
     → LeavesInst (crash_act (inst_numbers old)) new o
     → AppliesJointly p (act.Crash v r) (Ok o) (replace_inst p v r new)
-crash_applies law p v r old new o joint replica is same keeps left =
+crash_applies laws p v r old new o joint replica is same keeps left =
     let stood : IsReplicaOf p.plan v old = stands_at p v r old joint.parts is in
     let stands : IsReplicaOf p.plan v new = record { vertex = same ∙ stood.vertex; stands = keeps p.plan stood.stands } in
-    inst_made law p v r (act.Crash v r) new p.vault o (crash_act (inst_at (state_of p) v r)) joint replica replica refl refl
+    inst_made laws p v r (act.Crash v r) new p.vault o (crash_act (inst_at (state_of p) v r)) joint replica replica refl refl
     (ap crash_act (inst_is p v r old is) ∙ left) stands joint.parts.vault (keeps_all p.vault) (not_called true p.vault) (puts_nothing p.plan p.vault p.vault refl)
 
 -- ---- write
@@ -57,23 +57,23 @@ written_is p v r old is of_v =
     ∙ ap (λ (t : TailNumbers). write_act (vertex job v) (inst_numbers old) t) (tail_is p v)
     ∙ ap (λ (w : ℕ). write_act (vertex job w) (inst_numbers old) (tail_of p v).numbers) (sym of_v)
 
-pub write_applies : ActsKeepJoint → FaultsKeepJoint → (p : PlantTold) (v r : ℕ) (old new : InstState) (rest : TailHeld)
+pub write_applies : ActLaws → (p : PlantTold) (v r : ℕ) (old new : InstState) (rest : TailHeld)
     (result : Result Outcome EngineFault)
     → Joint p → IsReplica (plan_numbers p.plan) v r → inst_of p v r ≡ Some old
     → IsReplicaOf p.plan old.v new → IsTailOf p.plan old.v rest → Writes p.plan old (tail_of p v) result new rest
     → AppliesJointly p (act.Write v r) result (replace_both p v r new rest p.vault)
-write_applies law fails p v r old new rest (Ok o) joint replica is stands tail left =
+write_applies laws p v r old new rest (Ok o) joint replica is stands tail left =
     let of_v : old.v ≡ v = (stands_at p v r old joint.parts is).vertex in
-    both_made law p v r (act.Write v r) new rest p.vault o
+    both_made laws p v r (act.Write v r) new rest p.vault o
     (write_act (vertex (plan_numbers p.plan) v) (inst_at (state_of p) v r) (tail_at (state_of p) v))
     joint replica replica refl refl (written_is p v r old is of_v ∙ left)
     (subst (λ (w : ℕ). IsReplicaOf p.plan w new) of_v stands) (subst (λ (w : ℕ). IsTailOf p.plan w rest) of_v tail)
     joint.parts.vault (keeps_all p.vault) (not_called true p.vault) (puts_nothing p.plan p.vault p.vault refl)
-write_applies law fails p v r old new rest (Err f) joint replica is stands tail left =
+write_applies laws p v r old new rest (Err f) joint replica is stands tail left =
     let of_v : old.v ≡ v = (stands_at p v r old joint.parts is).vertex in
     let q : PlantTold = replace_both p v r new rest p.vault in
     subst (λ (e : EngineFault). AppliesJointly p (act.Write v r) (Err e) q) (sym left.0)
-    (both_met fails p v r (act.Write v r) old new rest p.vault fault.Memory joint replica replica (λ end e. e) is
+    (both_met laws p v r (act.Write v r) old new rest p.vault fault.Memory joint replica replica (λ end e. e) is
     (ap inst_numbers left.1) (ap (λ (t : TailHeld). t.numbers) left.2)
     (subst (λ (w : ℕ). IsReplicaOf p.plan w new) of_v stands) (subst (λ (w : ℕ). IsTailOf p.plan w rest) of_v tail)
     joint.parts.vault refl (refl, goes_on p.vault) (not_called false p.vault) (puts_nothing p.plan p.vault p.vault refl))
@@ -105,23 +105,23 @@ load_asks p v r old made u is of_v h =
     subst (λ (i : Option InstNumbers). AsksVault (needs_snapshot (vertex_of p.plan v) i) p.vault made u) (sym (inst_is p v r old is))
     (subst (λ (w : ℕ). AsksVault (needs_snapshot (vertex_of p.plan w) (inst_numbers old)) p.vault made u) of_v h)
 
-pub load_applies : ActsKeepJoint → FaultsKeepJoint → (p : PlantTold) (v r : ℕ) (old new : InstState) (rest : TailHeld) (u : VaultTold)
+pub load_applies : ActLaws → (p : PlantTold) (v r : ℕ) (old new : InstState) (rest : TailHeld) (u : VaultTold)
     (result : Result Outcome EngineFault)
     → Joint p → IsReplica (plan_numbers p.plan) v r → inst_of p v r ≡ Some old
     → IsReplicaOf p.plan old.v new → IsTailOf p.plan old.v rest → Sound p.plan u
     → Loads p.plan old (tail_of p v) p.vault result new rest u → AsksVault (must_fetch p.plan old) p.vault (is_ok result) u
     → u.outputs ≡ p.vault.outputs
     → AppliesJointly p (act.Load v r) result (replace_both p v r new rest u)
-load_applies law fails p v r old new rest u (Ok o) joint replica is stands tail sound left asks outputs =
+load_applies laws p v r old new rest u (Ok o) joint replica is stands tail sound left asks outputs =
     let of_v : old.v ≡ v = (stands_at p v r old joint.parts is).vertex in
-    both_made law p v r (act.Load v r) new rest u o
+    both_made laws p v r (act.Load v r) new rest u o
     (load_act (vertex (plan_numbers p.plan) v) (inst_at (state_of p) v r) (tail_at (state_of p) v) (durable_at (state_of p) v))
     joint replica replica refl refl (loaded_is p v r old is of_v ∙ left.0)
     (subst (λ (w : ℕ). IsReplicaOf p.plan w new) of_v stands) (subst (λ (w : ℕ). IsTailOf p.plan w rest) of_v tail)
     sound left.1 (load_asks p v r old true u is of_v asks) (puts_nothing p.plan p.vault u outputs)
-load_applies law fails p v r old new rest u (Err f) joint replica is stands tail sound left asks outputs =
+load_applies laws p v r old new rest u (Err f) joint replica is stands tail sound left asks outputs =
     let of_v : old.v ≡ v = (stands_at p v r old joint.parts is).vertex in
-    both_met fails p v r (act.Load v r) old new rest u f joint replica replica (λ end e. e) is
+    both_met laws p v r (act.Load v r) old new rest u f joint replica replica (λ end e. e) is
     (ap inst_numbers left.1) (ap (λ (t : TailHeld). t.numbers) left.2)
     (subst (λ (w : ℕ). IsReplicaOf p.plan w new) of_v stands) (subst (λ (w : ℕ). IsTailOf p.plan w rest) of_v tail)
     sound (fails_keeps (IsOfLook old.v (snapshot_loaded p.plan old (tail_of p v) p.vault)) p.plan p.vault u f left.0)
@@ -130,14 +130,14 @@ load_applies law fails p v r old new rest u (Err f) joint replica is stands tail
 
 -- ---- lose
 
-pub lose_applies : ActsKeepJoint → (p : PlantTold) (v : ℕ) (rest : TailHeld) (o : Outcome)
+pub lose_applies : ActLaws → (p : PlantTold) (v : ℕ) (rest : TailHeld) (o : Outcome)
     → Joint p → IsStream (plan_numbers p.plan) v
     → ((list : List Element) (most : ℕ) → Stands list most (tail_of p v) → Stands list most rest)
     → LeavesTail (lose_act (tail_of p v).numbers) rest o
     → AppliesJointly p (act.Lose v) (Ok o) (replace_tail p v rest)
-lose_applies law p v rest o joint stream keeps left =
+lose_applies laws p v rest o joint stream keeps left =
     let tail : IsTailOf p.plan v rest = keeps (meaning (vertices_of p.plan) v) p.plan.job.max_elements (joint.parts.tails v) in
-    tail_made law p v (act.Lose v) rest o (lose_act (tail_at (state_of p) v)) joint stream stream refl refl
+    tail_made laws p v (act.Lose v) rest o (lose_act (tail_at (state_of p) v)) joint stream stream refl refl
     (ap lose_act (tail_is p v) ∙ left) tail (not_called true p.vault)
 
 -- ---- snap, take
@@ -148,34 +148,34 @@ snap_asks p v r old made u is of_v h =
     subst (λ (i : Option InstNumbers). AsksVault (has_snapshot (vertex_of p.plan v) i) p.vault made u) (sym (inst_is p v r old is))
     (subst (λ (w : ℕ). AsksVault (has_snapshot (vertex_of p.plan w) (inst_numbers old)) p.vault made u) of_v h)
 
-pub snap_applies : ActsKeepJoint → FaultsKeepJoint → (p : PlantTold) (v r : ℕ) (old : InstState) (u : VaultTold)
+pub snap_applies : ActLaws → (p : PlantTold) (v r : ℕ) (old : InstState) (u : VaultTold)
     (result : Result Outcome EngineFault)
     → Joint p → IsReplica (plan_numbers p.plan) v r → inst_of p v r ≡ Some old
     → Sound p.plan u → Snaps p.plan old p.vault result u → AsksVault (must_keep p.plan old) p.vault (is_ok result) u
     → u.outputs ≡ p.vault.outputs
     → AppliesJointly p (act.Snap v r) result (replace_vault p u)
-snap_applies law fails p v r old u (Ok o) joint replica is sound left asks outputs =
+snap_applies laws p v r old u (Ok o) joint replica is sound left asks outputs =
     let job : JobNumbers = plan_numbers p.plan in
     let s : State = state_of p in
     let of_v : old.v ≡ v = (stands_at p v r old joint.parts is).vertex in
     let same : snap_act job v (inst_at s v r) s.vault ≡ snap_act job old.v (inst_numbers old) s.vault =
     ap (λ (i : Option InstNumbers). snap_act job v i s.vault) (inst_is p v r old is)
     ∙ ap (λ (w : ℕ). snap_act job w (inst_numbers old) s.vault) (sym of_v) in
-    vault_made law p (act.Snap v r) u o (snap_act job v (inst_at s v r) s.vault) joint replica refl refl
+    vault_made laws p (act.Snap v r) u o (snap_act job v (inst_at s v r) s.vault) joint replica refl refl
     (same ∙ left.0) sound left.1 (snap_asks p v r old true u is of_v asks) (puts_nothing p.plan p.vault u outputs)
-snap_applies law fails p v r old u (Err f) joint replica is sound left asks outputs =
+snap_applies laws p v r old u (Err f) joint replica is sound left asks outputs =
     let of_v : old.v ≡ v = (stands_at p v r old joint.parts is).vertex in
-    vault_met fails p (act.Snap v r) u f joint replica (λ end e. e) sound (fails_keeps IsOfStore p.plan p.vault u f left)
+    vault_met laws p (act.Snap v r) u f joint replica (λ end e. e) sound (fails_keeps IsOfStore p.plan p.vault u f left)
     (fails_is_cause p (replace_vault p u) (act.Snap v r) None f refl left) (snap_asks p v r old false u is of_v asks)
     (puts_nothing p.plan p.vault u outputs)
 
-pub take_applies : ActsKeepJoint → FaultsKeepJoint → (p : PlantTold) (k : ℕ) (u : VaultTold) (result : Result Outcome EngineFault)
+pub take_applies : ActLaws → (p : PlantTold) (k : ℕ) (u : VaultTold) (result : Result Outcome EngineFault)
     → Joint p → IsSink (plan_numbers p.plan) k
     → Sound p.plan u → TakesLine p.plan k p.vault result u → AsksVault true p.vault (is_ok result) u → PutsToSinksAlone p.plan p.vault u
     → AppliesJointly p (act.Take k) result (replace_vault p u)
-take_applies law fails p k u (Ok o) joint sink sound left asks outputs =
-    vault_made law p (act.Take k) u o (take_act (plan_numbers p.plan) k (state_of p).vault) joint sink refl refl left.0 sound left.1 asks outputs
-take_applies law fails p k u (Err f) joint sink sound left asks outputs =
+take_applies laws p k u (Ok o) joint sink sound left asks outputs =
+    vault_made laws p (act.Take k) u o (take_act (plan_numbers p.plan) k (state_of p).vault) joint sink refl refl left.0 sound left.1 asks outputs
+take_applies laws p k u (Err f) joint sink sound left asks outputs =
     let Can : VaultFault → Type 0 = IsOfPut (input (vertex (plan_numbers p.plan) k) 0) (durable_of p.vault k).taken in
-    vault_met fails p (act.Take k) u f joint sink (λ end e. e) sound (fails_keeps Can p.plan p.vault u f left)
+    vault_met laws p (act.Take k) u f joint sink (λ end e. e) sound (fails_keeps Can p.plan p.vault u f left)
     (fails_is_cause p (replace_vault p u) (act.Take k) None f refl left) asks outputs

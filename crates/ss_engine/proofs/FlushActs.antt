@@ -13,7 +13,6 @@ use Rattle.ss_fail.specs.declared.outcome.Outcome.TheVariants as outcome
 use Rattle.ss_frames.specs.Plans.{plan_numbers}
 use Rattle.ss_state.specs.Acts.{TailAndVaultStep, flush_act, flush_entry, flushed_tail}
 use Rattle.ss_state.specs.Journal.{enter}
-use Rattle.ss_state.specs.Laws.{ActsKeepJoint, FaultsKeepJoint}
 use Rattle.ss_state.specs.Numbers.{JobNumbers}
 use Rattle.ss_state.specs.State.{State, TailNumbers, VaultNumbers, row_at, tail_at}
 use Rattle.ss_state.specs.Step.{LeftByFlush, MayAct, step}
@@ -27,6 +26,7 @@ use Rattle.ss_vault.specs.Told.{VaultTold, numbers_of}
 use Rattle.ss_vault.specs.declared.answers.Flush.TheVariants as flush
 use Rattle.ss_vault.specs.declared.fault.VaultFault.TheVariants as vault
 use Rattle.ss_engine.specs.Applies.{AppliesJointly}
+use Rattle.ss_engine.specs.Laws.{ActLaws}
 use Rattle.ss_engine.specs.Joint.{Joint}
 use Rattle.ss_engine.specs.Told.{PlantTold, state_of, tail_of}
 use Rattle.ss_engine.proofs.Made.{puts_nothing}
@@ -87,37 +87,37 @@ left_some p v count some all d u is few e =
     inr (some, all, least, few, made, ap beside (e ∙ ap (λ (o : Option Entry). enter job s.vault o) (an_entry v some one))))
     (cases_eq some 0)
 
-pub flush_applies : ActsKeepJoint → FaultsKeepJoint → (p : PlantTold) (v count : ℕ) (rest : TailHeld) (u : VaultTold)
+pub flush_applies : ActLaws → (p : PlantTold) (v count : ℕ) (rest : TailHeld) (u : VaultTold)
     (result : Result Outcome EngineFault)
     → Joint p → MayAct (plan_numbers p.plan) (act.Flush v count) → IsTailOf p.plan v rest → Sound p.plan u
     → FlushesTail p.plan v count (tail_of p v) p.vault result rest u → AsksVault true p.vault (is_ok result) u → u.outputs ≡ p.vault.outputs
     → AppliesJointly p (act.Flush v count) result (replace_tail_and_vault p v rest u)
-flush_applies law fails p v count rest u (Ok o) joint may tail sound left asks outputs =
+flush_applies laws p v count rest u (Ok o) joint may tail sound left asks outputs =
     let job : JobNumbers = plan_numbers p.plan in
     let s : State = state_of p in
-    tail_and_vault_made law p v (act.Flush v count) rest u o (flush_act job v count (tail_at s v) s.vault) joint may.0 may refl refl
+    tail_and_vault_made laws p v (act.Flush v count) rest u o (flush_act job v count (tail_at s v) s.vault) joint may.0 may refl refl
     (ap (λ (t : TailNumbers). flush_act job v count t s.vault) (tail_is p v) ∙ left.0)
     tail sound left.1 asks (puts_nothing p.plan p.vault u outputs)
-flush_applies law fails p v count rest u (Err (fault.Vault vault.Halted)) joint may tail sound left asks outputs =
+flush_applies laws p v count rest u (Err (fault.Vault vault.Halted)) joint may tail sound left asks outputs =
     let beside : VaultTold → State = λ w. record (state_of p) { vault = numbers_of w } in
-    tail_and_vault_met fails p v (act.Flush v count) rest u (fault.Vault vault.Halted) joint may.0 may (ap beside left.0.1)
+    tail_and_vault_met laws p v (act.Flush v count) rest u (fault.Vault vault.Halted) joint may.0 may (ap beside left.0.1)
     (ap (λ (t : TailHeld). t.numbers) left.1) tail sound (None, left.0) asks (puts_nothing p.plan p.vault u outputs)
-flush_applies law fails p v count rest u (Err (fault.Vault (vault.Store faults))) joint may tail sound left asks outputs =
+flush_applies laws p v count rest u (Err (fault.Vault (vault.Store faults))) joint may tail sound left asks outputs =
     let some : ℕ = left.0.0 in
     let all : ℕ = left.0.1 in
     let stops = left.0.5 in
-    tail_and_vault_met fails p v (act.Flush v count) rest u (fault.Vault (vault.Store faults)) joint may.0 may
+    tail_and_vault_met laws p v (act.Flush v count) rest u (fault.Vault (vault.Store faults)) joint may.0 may
     (left_some p v count some all left.0.2 u left.0.3 left.0.4 stops.2.numbers)
     (ap (λ (t : TailHeld). t.numbers) left.1) tail sound (flush_entry v some, (tt, stops)) asks (puts_nothing p.plan p.vault u outputs)
-flush_applies law fails p v count rest u (Err (fault.Vault (vault.Output faults))) joint may tail sound left asks outputs = absurd left.0
-flush_applies law fails p v count rest u (Err (fault.Vault (vault.Damaged w n))) joint may tail sound left asks outputs = absurd left.0
-flush_applies law fails p v count rest u (Err (fault.Vault vault.Memory)) joint may tail sound left asks outputs = absurd left.0
-flush_applies law fails p v count rest u (Err (fault.Full w reached)) joint may tail sound left asks outputs = absurd left.0
-flush_applies law fails p v count rest u (Err fault.Memory) joint may tail sound left asks outputs =
+flush_applies laws p v count rest u (Err (fault.Vault (vault.Output faults))) joint may tail sound left asks outputs = absurd left.0
+flush_applies laws p v count rest u (Err (fault.Vault (vault.Damaged w n))) joint may tail sound left asks outputs = absurd left.0
+flush_applies laws p v count rest u (Err (fault.Vault vault.Memory)) joint may tail sound left asks outputs = absurd left.0
+flush_applies laws p v count rest u (Err (fault.Full w reached)) joint may tail sound left asks outputs = absurd left.0
+flush_applies laws p v count rest u (Err fault.Memory) joint may tail sound left asks outputs =
     let some : ℕ = left.0.0 in
     let all : ℕ = left.0.1 in
     let enters = left.0.5 in
     let goes : Goes p.vault u = record { halted = enters.halted ∙ sym enters.going; started = enters.started; counts = enters.counts } in
-    tail_and_vault_met fails p v (act.Flush v count) rest u fault.Memory joint may.0 may
+    tail_and_vault_met laws p v (act.Flush v count) rest u fault.Memory joint may.0 may
     (left_some p v count some all left.0.2 u left.0.3 left.0.4 enters.numbers)
     (ap (λ (t : TailHeld). t.numbers) left.1) tail sound (refl, goes) asks (puts_nothing p.plan p.vault u outputs)

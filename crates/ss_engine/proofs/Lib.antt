@@ -11,3 +11,6 @@ pub mod FlushActs
 pub mod PlayRuns
 pub mod StartParts
 pub mod StartVertices
+pub mod CollectActs
+pub mod Wiped
+pub mod Behind

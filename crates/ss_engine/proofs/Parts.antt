@@ -32,7 +32,7 @@ replace_vault p vault = record p { vault = vault }
 pub tail_is : (p : PlantTold) (v : ℕ) → tail_at (state_of p) v ≡ (tail_of p v).numbers
 tail_is p v = get_or-map (λ (tail : TailHeld). tail.numbers) p.tails v empty
 
-replicas_are : (p : PlantTold) (v : ℕ) → insts_at (state_of p) v ≡ map inst_numbers (replicas_of p v)
+pub replicas_are : (p : PlantTold) (v : ℕ) → insts_at (state_of p) v ≡ map inst_numbers (replicas_of p v)
 replicas_are p v = get_or-map (map inst_numbers) p.insts v []
 
 found : {A B : Type 0} (f : A → B) (xs : List A) (r : ℕ) (x : A) (d : B) → slice_get xs r ≡ Some x → get_or (map f xs) r d ≡ f x

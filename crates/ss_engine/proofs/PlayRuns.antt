@@ -82,14 +82,14 @@ pub plays_none : (p : PlantTold) (before : List Made) → PlaysAll p [] before p
 plays_none p before = record { made = []; are = refl; trace = sym (append-nil before); runs = runs_none p }
 
 -- one more act was made
-pub plays_more : (p q r : PlantTold) (acts : List Act) (a : Act) (before mid after : List Made) → PlaysAll p acts before q mid → MakesOne q a mid r after
+pub plays_more : (p q r : PlantTold) (acts : List Act) (a : Act) (o : Outcome) (before mid after : List Made) → PlaysAll p acts before q mid → MakesOne q a mid o r after
     → PlaysAll p (acts ++ a ∷ []) before r after
-plays_more p q r acts a before mid after plays one = record {
-  made = plays.made ++ made_so a one.outcome ∷ [];
-  are = map-append (λ (m : Made). m.act) plays.made (made_so a one.outcome ∷ []) ∙ ap (λ (xs : List Act). xs ++ a ∷ []) plays.are;
-  trace = one.trace ∙ ap (λ (xs : List Made). xs ++ made_so a one.outcome ∷ []) plays.trace
-      ∙ append_assoc before plays.made (made_so a one.outcome ∷ []);
-  runs = runs_more p q r plays.made a one.outcome plays.runs one.makes one.outputs;
+plays_more p q r acts a o before mid after plays one = record {
+  made = plays.made ++ made_so a o ∷ [];
+  are = map-append (λ (m : Made). m.act) plays.made (made_so a o ∷ []) ∙ ap (λ (xs : List Act). xs ++ a ∷ []) plays.are;
+  trace = one.trace ∙ ap (λ (xs : List Made). xs ++ made_so a o ∷ []) plays.trace
+      ∙ append_assoc before plays.made (made_so a o ∷ []);
+  runs = runs_more p q r plays.made a o plays.runs one.makes one.outputs;
 }
 
 -- one more act met a fault
@@ -110,11 +110,11 @@ plays_up_to p q r acts rest a before mid after f plays joint one = record {
 }
 
 -- the same at a place of a list of acts
-pub plays_to : (p q r : PlantTold) (acts : List Act) (i : ℕ) (d : Act) (before mid after : List Made) → i < length acts
-    → PlaysAll p (take i acts) before q mid → MakesOne q (get_or acts i d) mid r after → PlaysAll p (take (i + 1) acts) before r after
-plays_to p q r acts i d before mid after h plays one =
+pub plays_to : (p q r : PlantTold) (acts : List Act) (i : ℕ) (d : Act) (o : Outcome) (before mid after : List Made) → i < length acts
+    → PlaysAll p (take i acts) before q mid → MakesOne q (get_or acts i d) mid o r after → PlaysAll p (take (i + 1) acts) before r after
+plays_to p q r acts i d o before mid after h plays one =
     subst (λ (xs : List Act). PlaysAll p xs before r after) (sym (take_more acts i d h))
-    (plays_more p q r (take i acts) (get_or acts i d) before mid after plays one)
+    (plays_more p q r (take i acts) (get_or acts i d) o before mid after plays one)
 
 pub plays_until : (p q r : PlantTold) (acts : List Act) (i : ℕ) (d : Act) (before mid after : List Made) (f : EngineFault) → i < length acts
     → PlaysAll p (take i acts) before q mid → Joint q → StopsAtOne q (get_or acts i d) mid f r after → PlaysUpTo p acts before f r after

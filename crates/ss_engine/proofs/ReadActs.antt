@@ -15,7 +15,6 @@ use Rattle.ss_fail.specs.declared.outcome.Outcome.{Outcome}
 use Rattle.ss_frames.specs.Plans.{plan_numbers}
 use Rattle.ss_plan.specs.Plan.{PlanText}
 use Rattle.ss_state.specs.Acts.{InstStep, needs_vault, read_list}
-use Rattle.ss_state.specs.Laws.{ActsKeepJoint, FaultsKeepJoint}
 use Rattle.ss_state.specs.Numbers.{JobNumbers, VertexNumbers, IsStream, is_inner, vertex, out}
 use Rattle.ss_state.specs.State.{State, TailNumbers, InstNumbers, tail_at, inst_at, durable_at}
 use Rattle.ss_state.specs.Step.{IsReplica, has_passed, is_full, read_at, read_inner, wanted_vertex}
@@ -28,6 +27,7 @@ use Rattle.ss_vertex.specs.Standing.{Stands}
 use Rattle.ss_water.specs.declared.node.Kind.{Kind}
 use Rattle.ss_water.specs.declared.node.Kind.TheVariants.{Source}
 use Rattle.ss_engine.specs.Applies.{AppliesJointly, CanMeet, IsFullAt, calls_vault}
+use Rattle.ss_engine.specs.Laws.{ActLaws}
 use Rattle.ss_engine.specs.Joint.{Joint}
 use Rattle.ss_engine.specs.Told.{PlantTold, inst_of, state_of, tail_of}
 use Rattle.ss_engine.proofs.Causes.{fails_keeps}
@@ -138,18 +138,18 @@ new_within plan v new facts stream stands =
 
 -- ---- a read that was made, as its reading says
 
-pub read_made : ActsKeepJoint → (p : PlantTold) (v r : ℕ) (old new : InstState) (u : VaultTold) (o : Outcome) (did : InstStep)
+pub read_made : ActLaws → (p : PlantTold) (v r : ℕ) (old new : InstState) (u : VaultTold) (o : Outcome) (did : InstStep)
     → ActFacts p.plan → Joint p → IsReplica (plan_numbers p.plan) v r → old.v ≡ v
     → read_at (plan_numbers p.plan) (state_of p) v r ≡ did → LeavesInst did new o
     → IsReplicaOf p.plan old.v new → Sound p.plan u → Keeps p.vault u → AsksVault (calls_vault p (act.Read v r)) p.vault true u
     → PutsToSinksAlone p.plan p.vault u
     → AppliesJointly p (act.Read v r) (Ok o) (replace_vault (replace_inst p v r new) u)
-read_made law p v r old new u o did facts joint replica of_v is left stands sound keeps asks outputs =
+read_made laws p v r old new u o did facts joint replica of_v is left stands sound keeps asks outputs =
     let job : JobNumbers = plan_numbers p.plan in
     let here : IsReplicaOf p.plan v new = subst (λ (w : ℕ). IsReplicaOf p.plan w new) of_v stands in
     let within : is_full job (state_of p) (act.Read v r) ≡ false =
     ap (λ (d : InstStep). has_passed job.max_elements (vertex job v) d.inst) (is ∙ left) ∙ new_within p.plan v new facts replica.0 here in
-    inst_made law p v r (act.Read v r) new u o (read_at job (state_of p) v r) joint replica replica within refl (is ∙ left) here sound keeps asks outputs
+    inst_made laws p v r (act.Read v r) new u o (read_at job (state_of p) v r) joint replica replica within refl (is ∙ left) here sound keeps asks outputs
 
 -- ---- a read that was refused
 
@@ -165,19 +165,19 @@ full_at p v r old did w reached facts of_v is full =
           ∙ ap (λ (most : ℕ). has_passed most (vertex job old.v) did.inst) facts.of_plan.most ∙ full.passed,
     )
 
-pub read_refused : FaultsKeepJoint → (p : PlantTold) (v r : ℕ) (old new : InstState) (did : InstStep) (f : EngineFault)
+pub read_refused : ActLaws → (p : PlantTold) (v r : ℕ) (old new : InstState) (did : InstStep) (f : EngineFault)
     → ActFacts p.plan → Joint p → IsReplica (plan_numbers p.plan) v r → inst_of p v r ≡ Some old → old.v ≡ v
     → read_at (plan_numbers p.plan) (state_of p) v r ≡ did → RefusesRead p.plan old did f → new ≡ old → IsReplicaOf p.plan old.v new
     → calls_vault p (act.Read v r) ≡ false
     → AppliesJointly p (act.Read v r) (Err f) (replace_inst p v r new)
-read_refused law p v r old new did (fault.Vault f) facts joint replica is of_v reads refused same stands calls = absurd refused
-read_refused law p v r old new did (fault.Full w reached) facts joint replica is of_v reads refused same stands calls =
-    inst_met law p v r (act.Read v r) old new p.vault (fault.Full w reached) joint replica replica (λ end e. e) is (ap inst_numbers same)
+read_refused laws p v r old new did (fault.Vault f) facts joint replica is of_v reads refused same stands calls = absurd refused
+read_refused laws p v r old new did (fault.Full w reached) facts joint replica is of_v reads refused same stands calls =
+    inst_met laws p v r (act.Read v r) old new p.vault (fault.Full w reached) joint replica replica (λ end e. e) is (ap inst_numbers same)
     (subst (λ (i : ℕ). IsReplicaOf p.plan i new) of_v stands) joint.parts.vault refl
     (full_at p v r old did w reached facts of_v reads refused, keeps_all p.vault)
     (subst (λ (b : Bool). AsksVault b p.vault false p.vault) (sym calls) (not_called false p.vault)) (puts_nothing p.plan p.vault p.vault refl)
-read_refused law p v r old new did fault.Memory facts joint replica is of_v reads refused same stands calls =
-    inst_met law p v r (act.Read v r) old new p.vault fault.Memory joint replica replica (λ end e. e) is (ap inst_numbers same)
+read_refused laws p v r old new did fault.Memory facts joint replica is of_v reads refused same stands calls =
+    inst_met laws p v r (act.Read v r) old new p.vault fault.Memory joint replica replica (λ end e. e) is (ap inst_numbers same)
     (subst (λ (i : ℕ). IsReplicaOf p.plan i new) of_v stands) joint.parts.vault refl
     (refl, goes_on p.vault) (subst (λ (b : Bool). AsksVault b p.vault false p.vault) (sym calls) (not_called false p.vault))
     (puts_nothing p.plan p.vault p.vault refl)
@@ -191,82 +191,82 @@ look_fails p v r old f u is of_v h =
     Fails (IsOfLook (wanted_vertex (vertex_of p.plan w) i) (number_wanted (vertex_of p.plan w) i)) p.plan p.vault None f u in
     subst (P v) (sym (inst_is p v r old is)) (subst (λ (w : ℕ). P w (inst_numbers old)) of_v h)
 
-pub read_failed : FaultsKeepJoint → (p : PlantTold) (v r : ℕ) (old new : InstState) (u : VaultTold) (f : EngineFault)
+pub read_failed : ActLaws → (p : PlantTold) (v r : ℕ) (old new : InstState) (u : VaultTold) (f : EngineFault)
     → ActFacts p.plan → Joint p → IsReplica (plan_numbers p.plan) v r → inst_of p v r ≡ Some old → old.v ≡ v
     → read_at (plan_numbers p.plan) (state_of p) v r ≡ vault_reading p.plan old p.vault
     → FailsToRead p.plan old p.vault f u → new ≡ old → IsReplicaOf p.plan old.v new → Sound p.plan u
     → AsksVault (calls_vault p (act.Read v r)) p.vault false u → u.outputs ≡ p.vault.outputs
     → AppliesJointly p (act.Read v r) (Err f) (replace_vault (replace_inst p v r new) u)
-read_failed law p v r old new u (fault.Vault f) facts joint replica is of_v reads failed same stands sound asks outputs =
+read_failed laws p v r old new u (fault.Vault f) facts joint replica is of_v reads failed same stands sound asks outputs =
     let Can : VaultFault → Type 0 = IsOfLook (wanted_from p.plan old) (number_wanted (vertex_of p.plan old.v) (inst_numbers old)) in
-    inst_met law p v r (act.Read v r) old new u (fault.Vault f) joint replica replica (λ end e. e) is (ap inst_numbers same)
+    inst_met laws p v r (act.Read v r) old new u (fault.Vault f) joint replica replica (λ end e. e) is (ap inst_numbers same)
     (subst (λ (i : ℕ). IsReplicaOf p.plan i new) of_v stands) sound (fails_keeps Can p.plan p.vault u (fault.Vault f) failed)
     (None, look_fails p v r old (fault.Vault f) u is of_v failed) asks (puts_nothing p.plan p.vault u outputs)
-read_failed law p v r old new u (fault.Full w reached) facts joint replica is of_v reads failed same stands sound asks outputs =
-    inst_met law p v r (act.Read v r) old new u (fault.Full w reached) joint replica replica (λ end e. e) is (ap inst_numbers same)
+read_failed laws p v r old new u (fault.Full w reached) facts joint replica is of_v reads failed same stands sound asks outputs =
+    inst_met laws p v r (act.Read v r) old new u (fault.Full w reached) joint replica replica (λ end e. e) is (ap inst_numbers same)
     (subst (λ (i : ℕ). IsReplicaOf p.plan i new) of_v stands) sound failed.1.numbers
     (full_at p v r old (vault_reading p.plan old p.vault) w reached facts of_v reads failed.0, failed.1)
     asks (puts_nothing p.plan p.vault u outputs)
-read_failed law p v r old new u fault.Memory facts joint replica is of_v reads failed same stands sound asks outputs =
-    inst_met law p v r (act.Read v r) old new u fault.Memory joint replica replica (λ end e. e) is (ap inst_numbers same)
+read_failed laws p v r old new u fault.Memory facts joint replica is of_v reads failed same stands sound asks outputs =
+    inst_met laws p v r (act.Read v r) old new u fault.Memory joint replica replica (λ end e. e) is (ap inst_numbers same)
     (subst (λ (i : ℕ). IsReplicaOf p.plan i new) of_v stands) sound failed.numbers (refl, failed.goes) asks (puts_nothing p.plan p.vault u outputs)
 
 -- ---- what each function says
 
-pub list_applies : ActsKeepJoint → FaultsKeepJoint → (p : PlantTold) (v r : ℕ) (old new : InstState) (result : Result Outcome EngineFault)
+pub list_applies : ActLaws → (p : PlantTold) (v r : ℕ) (old new : InstState) (result : Result Outcome EngineFault)
     → ActFacts p.plan → Joint p → IsReplica (plan_numbers p.plan) v r → inst_of p v r ≡ Some old
     → (vertex (plan_numbers p.plan) v).kind ≡ Source → IsReplicaOf p.plan old.v new → ReadsList p.plan old p.vault result new
     → AppliesJointly p (act.Read v r) result (replace_inst p v r new)
-list_applies law fails p v r old new (Ok o) facts joint replica is source stands left =
+list_applies laws p v r old new (Ok o) facts joint replica is source stands left =
     let of_v : old.v ≡ v = (stands_at p v r old joint.parts is).vertex in
-    read_made law p v r old new p.vault o (list_reading p.plan old p.vault) facts joint replica of_v (reads_list p v r old is of_v source) left stands
+    read_made laws p v r old new p.vault o (list_reading p.plan old p.vault) facts joint replica of_v (reads_list p v r old is of_v source) left stands
     joint.parts.vault (keeps_all p.vault)
     (subst (λ (b : Bool). AsksVault b p.vault true p.vault) (sym (list_asks p v r source)) (not_called true p.vault))
     (puts_nothing p.plan p.vault p.vault refl)
-list_applies law fails p v r old new (Err f) facts joint replica is source stands left =
+list_applies laws p v r old new (Err f) facts joint replica is source stands left =
     let of_v : old.v ≡ v = (stands_at p v r old joint.parts is).vertex in
-    read_refused fails p v r old new (list_reading p.plan old p.vault) f facts joint replica is of_v (reads_list p v r old is of_v source)
+    read_refused laws p v r old new (list_reading p.plan old p.vault) f facts joint replica is of_v (reads_list p v r old is of_v source)
     left.0 left.1 stands (list_asks p v r source)
 
 -- the tail of vertex u answered
-pub tail_applies : ActsKeepJoint → (p : PlantTold) (v r u : ℕ) (old new : InstState) (o : Outcome)
+pub tail_applies : ActLaws → (p : PlantTold) (v r u : ℕ) (old new : InstState) (o : Outcome)
     → ActFacts p.plan → Joint p → IsReplica (plan_numbers p.plan) v r → inst_of p v r ≡ Some old
     → is_inner (vertex (plan_numbers p.plan) v).kind ≡ true → (IsReady p.plan old → u ≡ wanted_from p.plan old)
     → IsReplicaOf p.plan old.v new → ReadsTail p.plan old (tail_of p u) (Ok (read_part.Did o)) new
     → AppliesJointly p (act.Read v r) (Ok o) (replace_inst p v r new)
-tail_applies law p v r u old new o facts joint replica is operator wanted stands left =
+tail_applies laws p v r u old new o facts joint replica is operator wanted stands left =
     let of_v : old.v ≡ v = (stands_at p v r old joint.parts is).vertex in
-    read_made law p v r old new p.vault o (tail_reading p.plan old (tail_of p u)) facts joint replica of_v
+    read_made laws p v r old new p.vault o (tail_reading p.plan old (tail_of p u)) facts joint replica of_v
     (reads_tail p v r u old is of_v operator wanted left.0) left.1 stands joint.parts.vault (keeps_all p.vault)
     (subst (λ (b : Bool). AsksVault b p.vault true p.vault) (sym (input_asks p v r u old is of_v operator wanted ∙ left.0)) (not_called true p.vault))
     (puts_nothing p.plan p.vault p.vault refl)
 
 -- or it refused
-pub refused_applies : FaultsKeepJoint → (p : PlantTold) (v r u : ℕ) (old new : InstState) (f : EngineFault)
+pub refused_applies : ActLaws → (p : PlantTold) (v r u : ℕ) (old new : InstState) (f : EngineFault)
     → ActFacts p.plan → Joint p → IsReplica (plan_numbers p.plan) v r → inst_of p v r ≡ Some old
     → is_inner (vertex (plan_numbers p.plan) v).kind ≡ true → (IsReady p.plan old → u ≡ wanted_from p.plan old)
     → IsReplicaOf p.plan old.v new → ReadsTail p.plan old (tail_of p u) (Err f) new
     → AppliesJointly p (act.Read v r) (Err f) (replace_inst p v r new)
-refused_applies law p v r u old new f facts joint replica is operator wanted stands left =
+refused_applies laws p v r u old new f facts joint replica is operator wanted stands left =
     let of_v : old.v ≡ v = (stands_at p v r old joint.parts is).vertex in
-    read_refused law p v r old new (tail_reading p.plan old (tail_of p u)) f facts joint replica is of_v
+    read_refused laws p v r old new (tail_reading p.plan old (tail_of p u)) f facts joint replica is of_v
     (reads_tail p v r u old is of_v operator wanted left.0) left.1 left.2 stands (input_asks p v r u old is of_v operator wanted ∙ left.0)
 
 -- what is stored was asked
-pub kept_applies : ActsKeepJoint → FaultsKeepJoint → (p : PlantTold) (v r u : ℕ) (old new : InstState) (after : VaultTold) (result : Result Outcome EngineFault)
+pub kept_applies : ActLaws → (p : PlantTold) (v r u : ℕ) (old new : InstState) (after : VaultTold) (result : Result Outcome EngineFault)
     → ActFacts p.plan → Joint p → IsReplica (plan_numbers p.plan) v r → inst_of p v r ≡ Some old
     → is_inner (vertex (plan_numbers p.plan) v).kind ≡ true → (IsReady p.plan old → u ≡ wanted_from p.plan old)
     → must_ask p.plan old (tail_of p u) ≡ true → IsReplicaOf p.plan old.v new → Sound p.plan after
     → ReadsVault p.plan old p.vault result new after → AsksVault true p.vault (is_ok result) after → after.outputs ≡ p.vault.outputs
     → AppliesJointly p (act.Read v r) result (replace_vault (replace_inst p v r new) after)
-kept_applies law fails p v r u old new after (Ok o) facts joint replica is operator wanted asked stands sound left asks outputs =
+kept_applies laws p v r u old new after (Ok o) facts joint replica is operator wanted asked stands sound left asks outputs =
     let of_v : old.v ≡ v = (stands_at p v r old joint.parts is).vertex in
-    read_made law p v r old new after o (vault_reading p.plan old p.vault) facts joint replica of_v
+    read_made laws p v r old new after o (vault_reading p.plan old p.vault) facts joint replica of_v
     (reads_vault p v r u old is of_v operator wanted asked) left.0 stands sound left.1
     (subst (λ (b : Bool). AsksVault b p.vault true after) (sym (input_asks p v r u old is of_v operator wanted ∙ asked)) asks)
     (puts_nothing p.plan p.vault after outputs)
-kept_applies law fails p v r u old new after (Err f) facts joint replica is operator wanted asked stands sound left asks outputs =
+kept_applies laws p v r u old new after (Err f) facts joint replica is operator wanted asked stands sound left asks outputs =
     let of_v : old.v ≡ v = (stands_at p v r old joint.parts is).vertex in
-    read_failed fails p v r old new after f facts joint replica is of_v (reads_vault p v r u old is of_v operator wanted asked)
+    read_failed laws p v r old new after f facts joint replica is of_v (reads_vault p v r u old is of_v operator wanted asked)
     left.0 left.1 stands sound
     (subst (λ (b : Bool). AsksVault b p.vault false after) (sym (input_asks p v r u old is of_v operator wanted ∙ asked)) asks) outputs

@@ -136,7 +136,7 @@ begins plan outputs depot p starts = record {
 
 -- the parts stand
 
-empty_stands : (list : List Element) (most : ℕ) → Stands list most empty
+pub empty_stands : (list : List Element) (most : ℕ) → Stands list most empty
 empty_stands list most = record {
   numbered = refl;
   items = refl;

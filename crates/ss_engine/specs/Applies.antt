@@ -17,30 +17,16 @@ use Rattle.ss_state.specs.State.{inst_at, tail_at}
 use Rattle.ss_state.specs.Step.{FaultKind, Store, Memory, Other, Left, MayAct, step, is_full, read_at, wanted_vertex}
 use Rattle.ss_state.specs.declared.entry.Entry.{Entry}
 use Rattle.ss_vault.specs.Answers.{fetched}
-use Rattle.ss_vault.specs.Calls.{IsOfLook, IsOfPut, IsOfStore}
+use Rattle.ss_vault.specs.Calls.{HasCollected, HasWhatIsNeeded, IsOfDrop, IsOfLook, IsOfPut, IsOfStore}
 use Rattle.ss_vault.specs.Told.{durable_of, numbers_of}
 use Rattle.ss_vault.specs.declared.fault.VaultFault.{VaultFault}
 use Rattle.ss_vault.specs.declared.fault.VaultFault.TheVariants as vault
 use Rattle.ss_engine.specs.Joint.{Joint}
 use Rattle.ss_engine.specs.Told.{PlantTold, state_of}
 
--- the acts of collection, which can't be made yet
-abbrev pub is_collection : Act → Bool
-is_collection (act.Read v r) = false
-is_collection (act.Write v r) = false
-is_collection (act.Snap v r) = false
-is_collection (act.Crash v r) = false
-is_collection (act.Load v r) = false
-is_collection (act.Lose v) = false
-is_collection (act.Flush v count) = false
-is_collection (act.Take k) = false
-is_collection (act.Collect v) = true
-is_collection (act.Trim v) = true
-is_collection act.Pass = true
-
--- the act can be made on a job of this plan: it names what is there, and is none of collection
+-- the act can be made on a job of this plan: it names what is there
 abbrev pub MayApply : PlanText → Act → Type 0
-MayApply plan a = MayAct (plan_numbers plan) a × (is_collection a ≡ false)
+MayApply plan a = MayAct (plan_numbers plan) a
 
 -- which of the kinds a fault is that leave something behind
 abbrev pub kind_of : EngineFault → FaultKind
@@ -110,9 +96,9 @@ CanMeet p (act.Load v r) f =
 CanMeet p (act.Lose v) f = ⊥
 CanMeet p (act.Flush v count) f = IsOfStore f
 CanMeet p (act.Take k) f = IsOfPut (input (vertex_of p.plan k) 0) (durable_of p.vault k).taken f
-CanMeet p (act.Collect v) f = ⊥
-CanMeet p (act.Trim v) f = ⊥
-CanMeet p act.Pass f = ⊥
+CanMeet p (act.Collect v) f = IsOfDrop f
+CanMeet p (act.Trim v) f = IsOfDrop f
+CanMeet p act.Pass f = IsOfDrop f
 
 -- whether the act may want memory
 abbrev pub takes_memory : Act → Bool
@@ -146,9 +132,12 @@ abbrev pub Applies : PlantTold → Act → PlantTold → Result Outcome EngineFa
 Applies p a q (Ok outcome) = Makes p a q outcome
 Applies p a q (Err f) = Meets p a q f
 
--- and the job is joint either way, and the vault was called just where the act calls it
+-- and the job is joint either way, the vault was called just where the act calls it, and nothing that is needed is gone
 pub record AppliesJointly (p : PlantTold) (a : Act) (result : Result Outcome EngineFault) (q : PlantTold) : Type 0 where
   pub joint : Joint q
   pub applies : Applies p a q result
   pub vault : AsksVault (calls_vault p a) p.vault (is_ok result) q.vault
   pub outputs : PutsToSinksAlone p.plan p.vault q.vault
+  pub needed : HasWhatIsNeeded q.plan q.vault
+  -- a whole pass has left no more than that
+  pub collected : is_ok result ≡ true → a ≡ act.Pass → HasCollected p.plan p.vault q.vault

@@ -1,6 +1,9 @@
 pub mod Told
 pub mod Joint
+pub mod Laws
+pub mod Wipes
 pub mod Applies
+pub mod Around
 pub mod Plays
 pub mod Begins
 pub mod FirstParts

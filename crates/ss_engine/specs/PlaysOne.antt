@@ -9,9 +9,9 @@ use Rattle.ss_engine.specs.Applies.{Makes}
 use Rattle.ss_engine.specs.Plays.{StopsAt}
 use Rattle.ss_engine.specs.Told.{PlantTold}
 
--- the act was made, and the trace has it with its outcome behind the others
-pub record MakesOne (p : PlantTold) (a : Act) (before : List Made) (q : PlantTold) (after : List Made) : Type 0 where
-  pub outcome : Outcome
+-- the act was made with this outcome, and the trace has it behind the others
+pub record MakesOne (p : PlantTold) (a : Act) (before : List Made) (outcome : Outcome) (q : PlantTold)
+    (after : List Made) : Type 0 where
   pub makes : Makes p a q outcome
   pub trace : after ≡ before ++ record { act = a; outcome = outcome } ∷ []
   pub outputs : PutsToSinksAlone p.plan p.vault q.vault
@@ -23,6 +23,6 @@ pub record StopsAtOne (p : PlantTold) (a : Act) (before : List Made) (f : Engine
   pub trace : after ≡ before
   pub outputs : PutsToSinksAlone p.plan p.vault q.vault
 
-abbrev pub PlaysOne : PlantTold → Act → List Made → Result (Unit {0}) EngineFault → PlantTold → List Made → Type 0
-PlaysOne p a before (Ok _) q after = MakesOne p a before q after
+abbrev pub PlaysOne : PlantTold → Act → List Made → Result Outcome EngineFault → PlantTold → List Made → Type 0
+PlaysOne p a before (Ok outcome) q after = MakesOne p a before outcome q after
 PlaysOne p a before (Err f) q after = StopsAtOne p a before f q after

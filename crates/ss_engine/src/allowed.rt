@@ -13,7 +13,7 @@ use ss_plan::Plan;
 use ss_water::Kind;
 
 /// Whether an act can be made on a job of this plan: it names vertices and replicas of the job of the kinds that it
-/// needs, a flush stores 1 to 64 elements, and it is no act of collection.
+/// needs, and a flush stores 1 to 64 elements.
 pub fn may_apply(plan: &Plan, act: &Act) -> bool
     ensures { IsTrue result ↔ MayApply plan.now act.now }
 {
@@ -26,9 +26,9 @@ pub fn may_apply(plan: &Plan, act: &Act) -> bool
         Act::Lose { v } => is_stream(plan, v),
         Act::Flush { v, count } => is_stream(plan, v) && 1 <= count && count <= 64,
         Act::Take { k } => is_sink(plan, k),
-        Act::Collect { .. } => false,
-        Act::Trim { .. } => false,
-        Act::Pass => false,
+        Act::Collect { v } => is_stream(plan, v),
+        Act::Trim { v } => is_stream(plan, v),
+        Act::Pass => true,
     }
 }
 
@@ -47,7 +47,7 @@ pub(crate) fn replica_count(plan: &Plan, v: u32) -> u32
 }
 
 /// How many vertices there are.
-pub(crate) fn vertex_count(plan: &Plan) -> u32
+pub fn vertex_count(plan: &Plan) -> u32
     ensures { result ≡ length (plan_numbers plan.now).vertices }
 {
     act_facts(plan);
@@ -64,7 +64,7 @@ fn kind_of(plan: &Plan, v: u32) -> Kind
 }
 
 /// Whether a vertex has this number and gives a stream.
-fn is_stream(plan: &Plan, v: u32) -> bool
+pub fn is_stream(plan: &Plan, v: u32) -> bool
     ensures { IsTrue result ↔ IsStream (plan_numbers plan.now) v }
 {
     if v >= vertex_count(plan) {
@@ -77,7 +77,7 @@ fn is_stream(plan: &Plan, v: u32) -> bool
 }
 
 /// Whether a sink has this number.
-fn is_sink(plan: &Plan, k: u32) -> bool
+pub fn is_sink(plan: &Plan, k: u32) -> bool
     ensures { IsTrue result ↔ IsSink (plan_numbers plan.now) k }
 {
     if k >= vertex_count(plan) {

@@ -7,8 +7,8 @@ use ss_acts::EngineFault;
 use ss_fail::{Act, Outcome};
 use ss_outside::{Depot, Outputs};
 
-/// Makes an act. At a fault the job is as it was, but for what a flush had stored before it, and for a vault that is
-/// halted by a fault of a device or by damage.
+/// Makes an act. At a fault the job is as it was, but for what a flush had stored or a pass had dropped before it, and
+/// for a vault that is halted by a fault of a device or by damage.
 pub fn apply<O: Outputs, D: Depot>(
     plant: &mut Plant<O, D>,
     act: Act,
@@ -26,8 +26,8 @@ pub fn apply<O: Outputs, D: Depot>(
         Act::Lose { v } => Ok(plant.lose(v)),
         Act::Flush { v, count } => plant.flush(v, count),
         Act::Take { k } => plant.take(k),
-        Act::Collect { v: _ } => unreachable!(),
-        Act::Trim { v: _ } => unreachable!(),
-        Act::Pass => unreachable!(),
+        Act::Collect { v } => plant.collect(v),
+        Act::Trim { v } => plant.trim(v),
+        Act::Pass => plant.pass(),
     }
 }

@@ -3,7 +3,9 @@
 
 mod allowed;
 mod applying;
+mod around;
 mod durable;
+mod laws;
 mod plant;
 mod playing;
 mod readers;
@@ -12,13 +14,14 @@ mod replicas;
 mod starting;
 mod tails;
 mod trace;
+mod wiping;
 
-pub use allowed::may_apply;
+pub use allowed::{is_sink, is_stream, may_apply, vertex_count};
 pub use applying::apply;
 pub use plant::Plant;
-pub use playing::play;
+pub use playing::{play, play_one};
 pub use ss_acts::{
-    EngineFault, ReadPart, act_crash, act_flush, act_load, act_lose, act_read, act_read_kept,
-    act_read_source, act_snap, act_take, act_write,
+    EngineFault, ReadPart, act_collect, act_crash, act_flush, act_load, act_lose, act_pass,
+    act_read, act_read_kept, act_read_source, act_snap, act_take, act_trim, act_write,
 };
 pub use trace::Trace;

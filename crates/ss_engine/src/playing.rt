@@ -9,7 +9,7 @@ use crate::applying::apply;
 use crate::plant::Plant;
 use crate::trace::Trace;
 use ss_acts::EngineFault;
-use ss_fail::Act;
+use ss_fail::{Act, Outcome};
 use ss_outside::{Depot, Outputs};
 
 /// Makes the acts one behind the other, up to the first fault. The trace gets each that was made, with what came of
@@ -27,20 +27,20 @@ pub fn play<O: Outputs, D: Depot>(
 {
     for act in acts {
         match play_one(plant, *act, trace) {
-            Ok(()) => (),
+            Ok(_) => (),
             Err(fault) => return Err(fault),
         }
     }
     Ok(())
 }
 
-/// Makes an act, and puts it with what came of it behind the others of the trace. Its place there is reserved first,
-/// so that none is made that can't be told.
-fn play_one<O: Outputs, D: Depot>(
+/// Makes an act, puts it with what came of it behind the others of the trace, and tells what came of it. Its place
+/// there is reserved first, so that none is made that can't be told.
+pub fn play_one<O: Outputs, D: Depot>(
     plant: &mut Plant<O, D>,
     act: Act,
     trace: &mut Trace,
-) -> Result<(), EngineFault>
+) -> Result<Outcome, EngineFault>
     requires joint { Joint (plant_told O.told D.told plant.old) }
     requires act { MayApply (plant_told O.told D.told plant.old).plan act }
     ensures joint { Joint (plant_told O.told D.told plant.new) }
@@ -54,7 +54,7 @@ fn play_one<O: Outputs, D: Depot>(
     match apply(plant, act) {
         Ok(outcome) => {
             trace.pairs.push_reserved((act, outcome));
-            Ok(())
+            Ok(outcome)
         }
         Err(fault) => Err(fault),
     }

@@ -10,6 +10,7 @@ ghost use Rattle.ss_state.specs.Step.{IsReplica};
 ghost use Rattle.ss_vertex.specs.Standing.{InstStands};
 ghost use Rattle.ss_water.specs.declared.node.Kind.TheVariants.{Source};
 
+use crate::laws::act_laws;
 use crate::plant::Plant;
 use ss_acts::{
     EngineFault, ReadPart, act_facts, act_read, act_read_kept, act_read_source, is_operator,
@@ -18,7 +19,6 @@ use ss_acts::{
 use ss_fail::Outcome;
 use ss_outside::{Depot, Outputs};
 use ss_plan::Plan;
-use ss_state::acts_keep_joint;
 use ss_vertex::Inst;
 
 impl<O: Outputs, D: Depot> Plant<O, D> {
@@ -46,7 +46,7 @@ impl<O: Outputs, D: Depot> Plant<O, D> {
         ensures { AppliesJointly (plant_told O.told D.told self.old)
             (act.Read v r) result (plant_told O.told D.told self.new) }
     {
-        acts_keep_joint();
+        act_laws();
         act_facts(&self.plan);
         let inst = &mut self.insts[v as usize][r as usize];
         act_read_source(&self.plan, inst, &self.vault)
@@ -61,7 +61,7 @@ impl<O: Outputs, D: Depot> Plant<O, D> {
         ensures { AppliesJointly (plant_told O.told D.told self.old)
             (act.Read v r) result (plant_told O.told D.told self.new) }
     {
-        acts_keep_joint();
+        act_laws();
         act_facts(&self.plan);
         let inst = &mut self.insts[v as usize][r as usize];
         let u = vertex_wanted(&self.plan, inst);

@@ -5,11 +5,11 @@ ghost use Rattle.ss_fail.specs.declared.act.Act.TheVariants as act;
 ghost use Rattle.ss_frames.specs.Plans.{plan_numbers};
 ghost use Rattle.ss_state.specs.Step.{IsReplica};
 
+use crate::laws::act_laws;
 use crate::plant::Plant;
 use ss_acts::{EngineFault, act_crash, act_load, act_write};
 use ss_fail::Outcome;
 use ss_outside::{Depot, Outputs};
-use ss_state::acts_keep_joint;
 
 impl<O: Outputs, D: Depot> Plant<O, D> {
     ghost use Rattle.ss_engine.specs.Told.{plant_told};
@@ -21,7 +21,7 @@ impl<O: Outputs, D: Depot> Plant<O, D> {
         ensures { AppliesJointly (plant_told O.told D.told self.old)
             (act.Write v r) result (plant_told O.told D.told self.new) }
     {
-        acts_keep_joint();
+        act_laws();
         let inst = &mut self.insts[v as usize][r as usize];
         act_write(&self.plan, inst, &mut self.tails[v as usize])
     }
@@ -33,7 +33,7 @@ impl<O: Outputs, D: Depot> Plant<O, D> {
         ensures { AppliesJointly (plant_told O.told D.told self.old)
             (act.Crash v r) (Ok result) (plant_told O.told D.told self.new) }
     {
-        acts_keep_joint();
+        act_laws();
         act_crash(&mut self.insts[v as usize][r as usize])
     }
 
@@ -44,7 +44,7 @@ impl<O: Outputs, D: Depot> Plant<O, D> {
         ensures { AppliesJointly (plant_told O.told D.told self.old)
             (act.Load v r) result (plant_told O.told D.told self.new) }
     {
-        acts_keep_joint();
+        act_laws();
         let inst = &mut self.insts[v as usize][r as usize];
         let tail = &mut self.tails[v as usize];
         act_load(&self.plan, inst, tail, &mut self.vault)

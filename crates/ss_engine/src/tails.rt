@@ -6,11 +6,11 @@ ghost use Rattle.ss_frames.specs.Plans.{plan_numbers};
 ghost use Rattle.ss_state.specs.Numbers.{IsStream};
 ghost use Rattle.ss_state.specs.Step.{MayAct};
 
+use crate::laws::act_laws;
 use crate::plant::Plant;
 use ss_acts::{EngineFault, act_flush, act_lose};
 use ss_fail::Outcome;
 use ss_outside::{Depot, Outputs};
-use ss_state::acts_keep_joint;
 
 impl<O: Outputs, D: Depot> Plant<O, D> {
     ghost use Rattle.ss_engine.specs.Told.{plant_told};
@@ -22,7 +22,7 @@ impl<O: Outputs, D: Depot> Plant<O, D> {
         ensures { AppliesJointly (plant_told O.told D.told self.old)
             (act.Lose v) (Ok result) (plant_told O.told D.told self.new) }
     {
-        acts_keep_joint();
+        act_laws();
         act_lose(&mut self.tails[v as usize])
     }
     /// At most `count` elements of the tail of vertex `v` are stored, those that aren't known to be first.
@@ -32,7 +32,7 @@ impl<O: Outputs, D: Depot> Plant<O, D> {
         ensures { AppliesJointly (plant_told O.told D.told self.old)
             (act.Flush v count) result (plant_told O.told D.told self.new) }
     {
-        acts_keep_joint();
+        act_laws();
         let tail = &mut self.tails[v as usize];
         act_flush(&self.plan, v, count, tail, &mut self.vault)
     }

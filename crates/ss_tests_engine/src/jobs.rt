@@ -87,3 +87,29 @@ pub(crate) const fn flushed(count: u64) -> Outcome {
 pub(crate) const fn took(n: u64) -> Outcome {
     Outcome::Took { n }
 }
+
+pub(crate) const PASS: Act = Act::Pass;
+
+pub(crate) const fn collect(v: u32) -> Act {
+    Act::Collect { v }
+}
+
+pub(crate) const fn trim(v: u32) -> Act {
+    Act::Trim { v }
+}
+
+pub(crate) const fn gone(n: u64) -> Outcome {
+    Outcome::Gone { input: 0, n }
+}
+
+pub(crate) const fn base(n: u64) -> Outcome {
+    Outcome::Base { n }
+}
+
+pub(crate) const fn low(n: u64) -> Outcome {
+    Outcome::Low { n }
+}
+
+pub(crate) const fn mark(n: u64) -> Outcome {
+    Outcome::Mark { n }
+}

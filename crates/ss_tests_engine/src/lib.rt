@@ -2,6 +2,8 @@
 #![tactic(auto)]
 
 #[cfg(test)]
+mod collections;
+#[cfg(test)]
 mod faults;
 #[cfg(test)]
 mod jobs;
@@ -15,3 +17,5 @@ mod races;
 mod rows;
 #[cfg(test)]
 mod running;
+#[cfg(test)]
+mod wipes;

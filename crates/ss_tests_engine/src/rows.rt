@@ -63,7 +63,7 @@ fn a_source_goes_on_from_the_end_of_its_tail(rt: HostRuntime) -> Result<(), Fail
 }
 
 /// Three elements of the source, and the same of the select's first replica.
-const fn three() -> [Expected; 12] {
+pub(crate) const fn three() -> [Expected; 12] {
     [
         (read(S, 0), got(0)),
         (write(S, 0), stored(0)),

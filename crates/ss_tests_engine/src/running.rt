@@ -7,7 +7,7 @@ use ss_engine::{EngineFault, Plant, Trace, apply, may_apply, play};
 use ss_fail::{Act, Outcome};
 use ss_outside::{MemDepot, MemOutputs};
 use ss_plan::Plan;
-use ss_vault::plan_facts;
+use ss_vault::{Vault, plan_facts};
 use std::alloc::Global;
 use std::marker::Model;
 use std::process::Abort;
@@ -74,6 +74,22 @@ impl Running {
         Running::over(alloc, job, files, MemDepot::new(alloc))
     }
 
+    /// A job with these files that goes on around a vault that was just started.
+    pub(crate) fn around(alloc: Global, job: &str, files: &[&str]) -> Result<Running, Fail> {
+        let plan = Arc::new(alloc, made(alloc, job, files)?)?;
+        let vault = match Vault::start(alloc, &plan, MemDepot::new(alloc), MemOutputs::new(alloc)) {
+            Ok(vault) => vault,
+            Err(_) => return Err("no vault".into()),
+        };
+        match Plant::around(alloc, plan, vault) {
+            Ok(plant) => Ok(Running {
+                plant,
+                trace: Trace::new(alloc),
+            }),
+            Err(_) => Err("it didn't go on".into()),
+        }
+    }
+
     /// Makes an act.
     pub(crate) fn act(&mut self, act: Act) -> Result<Result<Outcome, EngineFault>, Fail> {
         if !may_apply(self.plant.plan(), &act) {
@@ -110,6 +126,33 @@ impl Running {
             tail.end(),
             tail.torn(),
         ))
+    }
+
+    /// Of a source, below which element its list isn't asked any more.
+    pub(crate) fn mark(&self, v: u32) -> Result<u64, Fail> {
+        plan_facts(self.plant.plan());
+        if v >= self.plant.plan().job().graph().count() {
+            return Err("no such vertex".into());
+        }
+        Ok(self.plant.vault().mark(v))
+    }
+
+    /// How many snapshots of a vertex are stored, and which is the first.
+    pub(crate) fn snaps(&self, v: u32) -> Result<(usize, Option<u64>), Fail> {
+        plan_facts(self.plant.plan());
+        if v >= self.plant.plan().job().graph().count() {
+            return Err("no such vertex".into());
+        }
+        let snaps = self.plant.vault().snaps(v);
+        match snaps.first() {
+            None => Ok((0, None)),
+            Some(first) => Ok((snaps.len(), Some(first.n))),
+        }
+    }
+
+    /// All that is in memory is lost.
+    pub(crate) fn wipe(&mut self) {
+        self.plant.wipe();
     }
 
     /// Of a replica that is up: n, next and how many outputs are left.

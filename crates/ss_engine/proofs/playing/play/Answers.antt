@@ -18,6 +18,6 @@ loop-act-preserved g c =
     let r = plant_told g.O.Outputs.told g.D.Depot.told c.play_one.new.plant in
     record {
       joint = c.in-Ok.ensures.joint;
-      plays = plays_to p q r c.args.acts.now c.loop-act.act-index (Read 0 0) c.args.trace.now c.loop-act.trace c.play_one.new.trace
+      plays = plays_to p q r c.args.acts.now c.loop-act.act-index (Read 0 0) c.in-Ok.field-0 c.args.trace.now c.loop-act.trace c.play_one.new.trace
           c.loop-act-test.true c.loop-act.invariant.plays c.in-Ok.ensures.plays;
     }

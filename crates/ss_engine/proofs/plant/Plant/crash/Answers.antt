@@ -28,5 +28,5 @@ returns g c =
     let is = inst_here p insts v r z c.index_mut-2.result.now refl c.requires.joint c.requires.replica c.index_mut.ensures.value c.index_mut-2.ensures.value in
     subst (λ (xs : List (List InstState)). AppliesJointly p (act.Crash v r) (Ok c.act_crash.result) (record p { insts = xs }))
     (inst_written p insts v r z new refl c.requires.joint c.requires.replica c.index_mut.ensures.value)
-    (crash_applies c.acts_keep_joint.ensures.made p v r c.index_mut-2.result.now new c.act_crash.result c.requires.joint c.requires.replica is
+    (crash_applies c.act_laws.ensures p v r c.index_mut-2.result.now new c.act_crash.result c.requires.joint c.requires.replica is
     c.act_crash.ensures.vertex c.act_crash.ensures.stands c.act_crash.ensures.answer)

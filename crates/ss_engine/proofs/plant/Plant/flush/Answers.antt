@@ -47,7 +47,7 @@ returns g c =
     let rest : TailHeld = c.act_flush.new.tail in
     let u : VaultTold = vault_told g.O.Outputs.told g.D.Depot.told c.act_flush.new.vault in
     let result = c.act_flush.result in
-    flush_applies c.acts_keep_joint.ensures.made c.acts_keep_joint.ensures.fault p v c.args.count rest u result c.requires.joint c.requires.act
+    flush_applies c.act_laws.ensures p v c.args.count rest u result c.requires.joint c.requires.act
     (subst (λ (plan : PlanText). IsTailOf plan v rest) c.deref.ensures c.act_flush.ensures.tail)
     (subst (λ (plan : PlanText). Sound plan u) c.deref.ensures c.act_flush.ensures.sound)
     (subst (λ (t : TailHeld). FlushesTail p.plan v c.args.count t p.vault result rest u) tail_is

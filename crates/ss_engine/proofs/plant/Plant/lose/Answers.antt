@@ -18,6 +18,6 @@ returns g c =
     let v = c.args.v in
     let tail : TailHeld = c.index_mut.result.now in
     let is : tail ≡ tail_of p v = tail_here p c.args.self.now.tails v tail refl c.requires.joint c.requires.stream.0 c.index_mut.ensures.value in
-    lose_applies c.acts_keep_joint.ensures.made p v c.act_lose.new.tail c.act_lose.result c.requires.joint c.requires.stream
+    lose_applies c.act_laws.ensures p v c.act_lose.new.tail c.act_lose.result c.requires.joint c.requires.stream
     (λ list most stood. c.act_lose.ensures.stands list most (subst (λ (t : TailHeld). Stands list most t) (sym is) stood))
     (subst (λ (t : TailHeld). LeavesTail (lose_act t.numbers) c.act_lose.new.tail c.act_lose.result) is c.act_lose.ensures.answer)

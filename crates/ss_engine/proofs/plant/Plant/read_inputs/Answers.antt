@@ -200,7 +200,7 @@ returns-in-Did g c =
     let facts : ActFacts p.plan = subst ActFacts c.deref.ensures c.act_facts.ensures in
     subst (λ (xs : List (List InstState)). AppliesJointly p (act.Read v r) (Ok c.in-Did.outcome) (record p { insts = xs }))
     (inst_written p insts v r z new refl c.requires.joint c.requires.replica c.index_mut.ensures.value)
-    (tail_applies c.acts_keep_joint.ensures.made p v r u old new c.in-Did.outcome facts c.requires.joint c.requires.replica is c.requires.operator.1 wanted
+    (tail_applies c.act_laws.ensures p v r u old new c.in-Did.outcome facts c.requires.joint c.requires.replica is c.requires.operator.1 wanted
     (subst (λ (plan : PlanText). IsReplicaOf plan old.v new) c.deref-3.ensures c.in-Ok.ensures.replica) answer)
 
 pub returns-in-AskVault : goal.returns-in-AskVault
@@ -229,7 +229,7 @@ returns-in-AskVault g c =
     let here = c.deref-in-AskVault.ensures in
     subst (λ (xs : List (List InstState)). AppliesJointly p (act.Read v r) result (record p { insts = xs; vault = after }))
     (inst_written p insts v r z last refl c.requires.joint c.requires.replica c.index_mut.ensures.value)
-    (kept_applies c.acts_keep_joint.ensures.made c.acts_keep_joint.ensures.fault p v r u old last after result facts c.requires.joint c.requires.replica is c.requires.operator.1 wanted
+    (kept_applies c.act_laws.ensures p v r u old last after result facts c.requires.joint c.requires.replica is c.requires.operator.1 wanted
     answer.0
     (subst (λ (i : InstState). IsReplicaOf p.plan i.v last) answer.1 (subst (λ (plan : PlanText). IsReplicaOf plan new.v last) here c.act_read_kept.ensures.replica))
     (subst (λ (plan : PlanText). Sound plan after) here c.act_read_kept.ensures.sound)
@@ -259,5 +259,5 @@ returns-in-Err g c =
     let facts : ActFacts p.plan = subst ActFacts c.deref.ensures c.act_facts.ensures in
     subst (λ (xs : List (List InstState)). AppliesJointly p (act.Read v r) (Err c.in-Err.fault) (record p { insts = xs }))
     (inst_written p insts v r z new refl c.requires.joint c.requires.replica c.index_mut.ensures.value)
-    (refused_applies c.acts_keep_joint.ensures.fault p v r u old new c.in-Err.fault facts c.requires.joint c.requires.replica is c.requires.operator.1 wanted
+    (refused_applies c.act_laws.ensures p v r u old new c.in-Err.fault facts c.requires.joint c.requires.replica is c.requires.operator.1 wanted
     (subst (λ (plan : PlanText). IsReplicaOf plan old.v new) c.deref-3.ensures c.in-Err.ensures.replica) answer)

@@ -68,6 +68,6 @@ returns g c =
     let facts : ActFacts p.plan = subst ActFacts c.deref.ensures c.act_facts.ensures in
     subst (λ (xs : List (List InstState)). AppliesJointly p (act.Read v r) result (record p { insts = xs }))
     (inst_written p insts v r z new refl c.requires.joint c.requires.replica c.index_mut.ensures.value)
-    (list_applies c.acts_keep_joint.ensures.made c.acts_keep_joint.ensures.fault p v r old new result facts c.requires.joint c.requires.replica is c.requires.source
+    (list_applies c.act_laws.ensures p v r old new result facts c.requires.joint c.requires.replica is c.requires.source
     (subst (λ (plan : PlanText). IsReplicaOf plan old.v new) c.deref-2.ensures c.act_read_source.ensures.replica)
     (subst (λ (plan : PlanText). ReadsList plan old p.vault result new) c.deref-2.ensures c.act_read_source.ensures.answer))

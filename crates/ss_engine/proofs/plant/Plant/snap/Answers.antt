@@ -51,7 +51,7 @@ returns g c =
     let is = inst_here p insts v r z old refl c.requires.joint c.requires.replica c.index.ensures c.index-inst.ensures in
     let u : VaultTold = vault_told g.O.Outputs.told g.D.Depot.told c.act_snap.new.vault in
     let result = c.act_snap.result in
-    snap_applies c.acts_keep_joint.ensures.made c.acts_keep_joint.ensures.fault p v r old u result c.requires.joint c.requires.replica is
+    snap_applies c.act_laws.ensures p v r old u result c.requires.joint c.requires.replica is
     (subst (λ (plan : PlanText). Sound plan u) c.deref.ensures c.act_snap.ensures.sound)
     (subst (λ (plan : PlanText). Snaps plan old p.vault result u) c.deref.ensures c.act_snap.ensures.answer)
     (subst (λ (plan : PlanText). AsksVault (must_keep plan old) p.vault (is_ok result) u) c.deref.ensures c.act_snap.ensures.asks)

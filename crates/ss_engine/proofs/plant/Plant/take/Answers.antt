@@ -24,7 +24,7 @@ returns g c =
     let p : PlantTold = plant_told g.O.Outputs.told g.D.Depot.told c.args.self.now in
     let u : VaultTold = vault_told g.O.Outputs.told g.D.Depot.told c.act_take.new.vault in
     let result = c.act_take.result in
-    take_applies c.acts_keep_joint.ensures.made c.acts_keep_joint.ensures.fault p c.args.k u result c.requires.joint c.requires.sink
+    take_applies c.act_laws.ensures p c.args.k u result c.requires.joint c.requires.sink
     (subst (λ (plan : PlanText). Sound plan u) c.deref.ensures c.act_take.ensures.sound)
     (subst (λ (plan : PlanText). TakesLine plan c.args.k p.vault result u) c.deref.ensures c.act_take.ensures.answer)
     c.act_take.ensures.asks

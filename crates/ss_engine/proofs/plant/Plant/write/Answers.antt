@@ -70,7 +70,7 @@ returns g c =
     let tail_is : tail ≡ tail_of p v = tail_here p c.args.self.now.tails v tail refl c.requires.joint c.requires.replica.0.0 c.index_mut-2.ensures.value in
     subst (λ (xs : List (List InstState)). AppliesJointly p (act.Write v r) result (record p { tails = set p.tails v rest; insts = xs }))
     (inst_written p insts v r z new refl c.requires.joint c.requires.replica c.index_mut.ensures.value)
-    (write_applies c.acts_keep_joint.ensures.made c.acts_keep_joint.ensures.fault p v r old new rest result c.requires.joint c.requires.replica is
+    (write_applies c.act_laws.ensures p v r old new rest result c.requires.joint c.requires.replica is
     (subst (λ (plan : PlanText). IsReplicaOf plan old.v new) c.deref.ensures c.act_write.ensures.replica)
     (subst (λ (plan : PlanText). IsTailOf plan old.v rest) c.deref.ensures c.act_write.ensures.tail)
     (subst (λ (t : TailHeld). Writes p.plan old t result new rest) tail_is
