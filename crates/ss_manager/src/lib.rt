@@ -7,4 +7,4 @@ mod snapping;
 
 pub use deciding::next_act;
 pub use fired::next_fired;
-pub use snapping::{is_snap_due, snap_due};
+pub use snapping::{is_numbered, is_snap_due, snap_due};

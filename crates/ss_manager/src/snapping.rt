@@ -50,7 +50,7 @@ fn policy_of(plan: &Plan, v: u32) -> Option<Policy>
 }
 
 /// What the laws of instances say of one that stands.
-pub(crate) fn is_numbered(plan: &Plan, inst: &Inst)
+pub fn is_numbered(plan: &Plan, inst: &Inst)
     requires { InstStands plan.now inst.now }
     ensures numbered { IsNumbered plan.now (vertex (plan_numbers plan.now) inst.now.v) inst.now }
     ensures is_vertex { inst.now.v < length plan.now.job.graph }

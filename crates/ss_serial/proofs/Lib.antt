@@ -1,0 +1,12 @@
+mod Runs
+mod Obeying
+mod Ruling
+mod Progress
+mod Excuses
+mod Looking
+mod Steps
+mod Newest
+mod Over
+mod Firing
+mod Writes
+mod Taken

@@ -1,0 +1,158 @@
+-- Acts that were made one list behind another.
+use Rattle.std.proofs.Common.{◌≡◌, ◌∙◌, List, [], ◌∷◌, ◌++◌, Result, Ok, Err, map, refl, sym, ap, subst, arith, append_assoc}
+use Rattle.std.proofs.lemmas.List.{append-nil, map-append}
+use Rattle.ss_acts.specs.Leaves.{Goes, PutsToSinksAlone}
+use Rattle.ss_acts.specs.declared.fault.EngineFault.{EngineFault}
+use Rattle.ss_engine.specs.Joint.{Joint}
+use Rattle.ss_engine.specs.Plays.{Plays, PlaysAll, PlaysUpTo, Runs, acts_of}
+use Rattle.ss_engine.specs.PlaysOne.{MakesOne, StopsAtOne}
+use Rattle.ss_engine.specs.Told.{PlantTold, state_of}
+use Rattle.ss_fail.specs.declared.act.Act.{Act}
+use Rattle.ss_fail.specs.declared.outcome.Outcome.{Outcome}
+use Rattle.ss_frames.specs.Plans.{plan_numbers}
+use Rattle.ss_plan.specs.Plan.{PlanText}
+use Rattle.ss_state.specs.Numbers.{JobNumbers}
+use Rattle.ss_state.specs.State.{State}
+use Rattle.ss_state.specs.Step.{Made, Ran, Run, run, step}
+use Rattle.ss_vault.specs.Told.{VaultTold}
+
+abbrev pub outcomes_of : List Made → List Outcome
+outcomes_of made = map (λ (m : Made). m.outcome) made
+
+-- ---- lists of acts over numbers
+
+pub run_state : (job : JobNumbers) (s : State) (xs ys : List Act) → (run job s (xs ++ ys)).state ≡ (run job (run job s xs).state ys).state
+run_state job s [] ys = refl
+run_state job s (x ∷ xs) ys = run_state job (step job s x).state xs ys
+
+run_outcomes : (job : JobNumbers) (s : State) (xs ys : List Act)
+    → (run job s (xs ++ ys)).outcomes ≡ (run job s xs).outcomes ++ (run job (run job s xs).state ys).outcomes
+run_outcomes job s [] ys = refl
+run_outcomes job s (x ∷ xs) ys =
+    ap (λ (os : List Outcome). (step job s x).outcome ∷ os) (run_outcomes job (step job s x).state xs ys)
+
+ran_is : (r : Ran) (s : State) (os : List Outcome) → r.state ≡ s → r.outcomes ≡ os → r ≡ record { state = s; outcomes = os }
+ran_is r s os e f =
+    let first : r ≡ record { state = s; outcomes = r.outcomes } = ap (λ (t : State). record { state = t; outcomes = r.outcomes }) e in
+    first ∙ ap (λ (xs : List Outcome). record { state = s; outcomes = xs }) f
+
+pub run_ends : (job : JobNumbers) (s end : State) (made : List Made) → Run job s made end → (run job s (acts_of made)).state ≡ end
+run_ends job s end made ran = ap (λ (r : Ran). r.state) ran
+
+run_then : (job : JobNumbers) (s mid end : State) (made more : List Made) → Run job s made mid → Run job mid more end → Run job s (made ++ more) end
+run_then job s mid end made more ran ran_more =
+    let xs : List Act = acts_of made in
+    let ys : List Act = acts_of more in
+    let first : (run job s xs).state ≡ mid = run_ends job s mid made ran in
+    let behind : (run job (run job s xs).state ys) ≡ record { state = end; outcomes = outcomes_of more } =
+    ap (λ (t : State). run job t ys) first ∙ ran_more in
+    ap (run job s) (map-append (λ (m : Made). m.act) made more)
+    ∙ ran_is (run job s (xs ++ ys)) end (outcomes_of (made ++ more))
+    (run_state job s xs ys ∙ ap (λ (r : Ran). r.state) behind)
+    (run_outcomes job s xs ys
+    ∙ ap (λ (os : List Outcome). os ++ (run job (run job s xs).state ys).outcomes) (ap (λ (r : Ran). r.outcomes) ran)
+    ∙ ap (λ (os : List Outcome). outcomes_of made ++ os) (ap (λ (r : Ran). r.outcomes) behind)
+    ∙ sym (map-append (λ (m : Made). m.outcome) made more))
+
+-- ---- lists of acts on a job
+
+goes_same : (s : VaultTold) → Goes s s
+goes_same s = record { halted = refl; started = refl; counts = record { faults = omega arith; output_faults = omega arith; shorts = omega arith } }
+
+pub goes_on : (s t u : VaultTold) → Goes s t → Goes t u → Goes s u
+goes_on s t u first second = record {
+  halted = second.halted ∙ first.halted;
+  started = second.started ∙ first.started;
+  counts = record { faults = omega arith; output_faults = omega arith; shorts = omega arith };
+}
+
+puts_on : (plan : PlanText) (s t u : VaultTold) → PutsToSinksAlone plan s t → PutsToSinksAlone plan t u → PutsToSinksAlone plan s u
+puts_on plan s t u first second = λ name h. second name h ∙ first name h
+
+runs_then : (p q r : PlantTold) (made more : List Made) → Runs p made q → Runs q more r → Runs p (made ++ more) r
+runs_then p q r made more first second = record {
+  plan = second.plan ∙ first.plan;
+  run = run_then (plan_numbers p.plan) (state_of p) (state_of q) (state_of r) made more first.run
+      (subst (λ (plan : PlanText). Run (plan_numbers plan) (state_of q) more (state_of r)) first.plan second.run);
+  goes = goes_on p.vault q.vault r.vault first.goes second.goes;
+  outputs = puts_on p.plan p.vault q.vault r.vault first.outputs
+      (subst (λ (plan : PlanText). PutsToSinksAlone plan q.vault r.vault) first.plan second.outputs);
+}
+
+runs_none : (p : PlantTold) → Runs p [] p
+runs_none p = record { plan = refl; run = refl; goes = goes_same p.vault; outputs = λ name h. refl }
+
+pub plays_none : (p : PlantTold) (before : List Made) → PlaysAll p [] before p before
+plays_none p before = record {
+  made = [];
+  are = refl;
+  trace = sym (append-nil before);
+  runs = runs_none p;
+}
+
+all_then : (p q r : PlantTold) (xs ys : List Act) (before mid after : List Made) → PlaysAll p xs before q mid → PlaysAll q ys mid r after
+    → PlaysAll p (xs ++ ys) before r after
+all_then p q r xs ys before mid after first second = record {
+  made = first.made ++ second.made;
+  are = map-append (λ (m : Made). m.act) first.made second.made
+      ∙ ap (λ (zs : List Act). zs ++ acts_of second.made) first.are
+      ∙ ap (λ (zs : List Act). xs ++ zs) second.are;
+  trace = second.trace ∙ ap (λ (ms : List Made). ms ++ second.made) first.trace ∙ append_assoc before first.made second.made;
+  runs = runs_then p q r first.made second.made first.runs second.runs;
+}
+
+up_to_then : (p q r : PlantTold) (xs ys : List Act) (before mid after : List Made) (f : EngineFault) → PlaysAll p xs before q mid
+    → PlaysUpTo q ys mid f r after → PlaysUpTo p (xs ++ ys) before f r after
+up_to_then p q r xs ys before mid after f first second = record {
+  made = first.made ++ second.made;
+  next = second.next;
+  rest = second.rest;
+  are = ap (λ (zs : List Act). zs ++ ys) (sym first.are)
+      ∙ ap (λ (zs : List Act). acts_of first.made ++ zs) second.are
+      ∙ sym (append_assoc (acts_of first.made) (acts_of second.made) (second.next ∷ second.rest))
+      ∙ ap (λ (zs : List Act). zs ++ second.next ∷ second.rest) (sym (map-append (λ (m : Made). m.act) first.made second.made));
+  trace = second.trace ∙ ap (λ (ms : List Made). ms ++ second.made) first.trace ∙ append_assoc before first.made second.made;
+  between = second.between;
+  runs = runs_then p q second.between first.made second.made first.runs second.runs;
+  joint = second.joint;
+  stops = second.stops;
+  outputs = puts_on p.plan p.vault q.vault r.vault first.runs.outputs
+      (subst (λ (plan : PlanText). PutsToSinksAlone plan q.vault r.vault) first.runs.plan second.outputs);
+}
+
+-- some acts, and then others up to the first fault
+pub plays_then : (p q r : PlantTold) (xs ys : List Act) (before mid after : List Made) (result : Result (Unit {0}) EngineFault)
+    → PlaysAll p xs before q mid → Plays q ys mid result r after → Plays p (xs ++ ys) before result r after
+plays_then p q r xs ys before mid after (Ok done) first second = all_then p q r xs ys before mid after first second
+plays_then p q r xs ys before mid after (Err f) first second = up_to_then p q r xs ys before mid after f first second
+
+-- ---- one act
+
+pub one_made : (p q : PlantTold) (a : Act) (o : Outcome) (before after : List Made) → MakesOne p a before o q after
+    → PlaysAll p (a ∷ []) before q after
+one_made p q a o before after one = record {
+  made = record { act = a; outcome = o } ∷ [];
+  are = refl;
+  trace = one.trace;
+  runs = record {
+    plan = one.makes.plan;
+    run = let did = one.makes.step in rw did refl;
+    goes = one.makes.goes;
+    outputs = one.outputs;
+  };
+}
+
+pub one_stopped : (p q : PlantTold) (a : Act) (rest : List Act) (f : EngineFault) (before after : List Made) → Joint p → StopsAtOne p a before f q after
+    → PlaysUpTo p (a ∷ rest) before f q after
+one_stopped p q a rest f before after joint one = record {
+  made = [];
+  next = a;
+  rest = rest;
+  are = refl;
+  trace = one.trace ∙ sym (append-nil before);
+  between = p;
+  runs = runs_none p;
+  joint = joint;
+  stops = one.stops;
+  outputs = one.outputs;
+}

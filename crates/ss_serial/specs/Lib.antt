@@ -1,0 +1,4 @@
+pub mod Drives
+pub mod Ends
+pub mod Headway
+pub mod Stored
