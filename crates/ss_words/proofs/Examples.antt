@@ -1,9 +1,16 @@
 -- Words worked out: the commands that they say.
-use Rattle.std.proofs.Common.{◌≡◌, [], ◌∷◌, Some, None, codes, refl, replicate}
+use Rattle.std.proofs.Common.{◌≡◌, ℕ, List, [], ◌∷◌, Some, None, codes, refl, replicate}
 use Rattle.ss_words.proofs.OnLiterals.{words_on_literals}
-use Rattle.ss_words.specs.Words.{check_job, command_of, play_job, run_job}
+use Rattle.ss_words.specs.Words.{CommandText, RunText, check_job, command_of, play_job, run_job}
 
-run-a-job : command_of (codes "run" ∷ codes "job.toml" ∷ []) ≡ Some (run_job (codes "job.toml"))
+-- nothing is said but the job
+abbrev no_options : RunText
+no_options = record { failures = None; trace = None; workers = None }
+
+abbrev run_plainly : List ℕ → CommandText
+run_plainly job = run_job job no_options
+
+run-a-job : command_of (codes "run" ∷ codes "job.toml" ∷ []) ≡ Some (run_plainly (codes "job.toml"))
 unfolding words_on_literals
 run-a-job = refl
 
@@ -12,16 +19,16 @@ unfolding words_on_literals
 check-a-job = refl
 
 -- `--` ends the options, and is no subject itself
-behind-two-hyphens : command_of (codes "run" ∷ codes "--" ∷ codes "job.toml" ∷ []) ≡ Some (run_job (codes "job.toml"))
+behind-two-hyphens : command_of (codes "run" ∷ codes "--" ∷ codes "job.toml" ∷ []) ≡ Some (run_plainly (codes "job.toml"))
 unfolding words_on_literals
 behind-two-hyphens = refl
 
 -- before the action too, and behind the subject
-two-hyphens-first : command_of (codes "--" ∷ codes "run" ∷ codes "job.toml" ∷ []) ≡ Some (run_job (codes "job.toml"))
+two-hyphens-first : command_of (codes "--" ∷ codes "run" ∷ codes "job.toml" ∷ []) ≡ Some (run_plainly (codes "job.toml"))
 unfolding words_on_literals
 two-hyphens-first = refl
 
-two-hyphens-last : command_of (codes "run" ∷ codes "job.toml" ∷ codes "--" ∷ []) ≡ Some (run_job (codes "job.toml"))
+two-hyphens-last : command_of (codes "run" ∷ codes "job.toml" ∷ codes "--" ∷ []) ≡ Some (run_plainly (codes "job.toml"))
 unfolding words_on_literals
 two-hyphens-last = refl
 
@@ -30,16 +37,16 @@ unfolding words_on_literals
 no-subject-behind-two = refl
 
 -- behind it a word may begin with a hyphen
-hyphen-behind-two : command_of (codes "run" ∷ codes "--" ∷ codes "-x" ∷ []) ≡ Some (run_job (codes "-x"))
+hyphen-behind-two : command_of (codes "run" ∷ codes "--" ∷ codes "-x" ∷ []) ≡ Some (run_plainly (codes "-x"))
 unfolding words_on_literals
 hyphen-behind-two = refl
 
 -- a hyphen alone names a file
-hyphen-alone : command_of (codes "run" ∷ codes "-" ∷ []) ≡ Some (run_job (codes "-"))
+hyphen-alone : command_of (codes "run" ∷ codes "-" ∷ []) ≡ Some (run_plainly (codes "-"))
 unfolding words_on_literals
 hyphen-alone = refl
 
-subject-of-200-bytes : command_of (codes "run" ∷ replicate 200 97 ∷ []) ≡ Some (run_job (replicate 200 97))
+subject-of-200-bytes : command_of (codes "run" ∷ replicate 200 97 ∷ []) ≡ Some (run_plainly (replicate 200 97))
 unfolding words_on_literals
 subject-of-200-bytes = refl
 
@@ -88,11 +95,11 @@ unknown-short-option : command_of (codes "run" ∷ codes "-x" ∷ []) ≡ None
 unfolding words_on_literals
 unknown-short-option = refl
 
-unknown-option : command_of (codes "run" ∷ codes "job.toml" ∷ codes "--workers" ∷ codes "2" ∷ []) ≡ None
+unknown-option : command_of (codes "run" ∷ codes "job.toml" ∷ codes "--speed" ∷ codes "2" ∷ []) ≡ None
 unfolding words_on_literals
 unknown-option = refl
 
-unknown-option-with-a-value : command_of (codes "run" ∷ codes "job.toml" ∷ codes "--trace=t" ∷ []) ≡ None
+unknown-option-with-a-value : command_of (codes "run" ∷ codes "job.toml" ∷ codes "--speed=2" ∷ []) ≡ None
 unfolding words_on_literals
 unknown-option-with-a-value = refl
 
@@ -200,3 +207,96 @@ check-with-a-schedule = refl
 plain-with-a-schedule : command_of (codes "plain" ∷ codes "--schedule=s.txt" ∷ codes "job.toml" ∷ []) ≡ None
 unfolding words_on_literals
 plain-with-a-schedule = refl
+
+-- a run may be told a file of failures, and a name for its trace
+run-with-failures : command_of (codes "run" ∷ codes "job.toml" ∷ codes "--failures" ∷ codes "f.txt" ∷ [])
+    ≡ Some (run_job (codes "job.toml") (record { failures = Some (codes "f.txt"); trace = None; workers = None }))
+unfolding words_on_literals
+run-with-failures = refl
+
+run-with-a-trace : command_of (codes "--trace=-" ∷ codes "run" ∷ codes "job.toml" ∷ [])
+    ≡ Some (run_job (codes "job.toml") (record { failures = None; trace = Some (codes "-"); workers = None }))
+unfolding words_on_literals
+run-with-a-trace = refl
+
+run-with-both : command_of (codes "run" ∷ codes "--trace" ∷ codes "t" ∷ codes "job.toml" ∷ codes "--failures=f" ∷ [])
+    ≡ Some (run_job (codes "job.toml") (record { failures = Some (codes "f"); trace = Some (codes "t"); workers = None }))
+unfolding words_on_literals
+run-with-both = refl
+
+trace-of-201-bytes : command_of (codes "run" ∷ codes "job.toml" ∷ codes "--trace" ∷ replicate 201 97 ∷ []) ≡ None
+unfolding words_on_literals
+trace-of-201-bytes = refl
+
+empty-failures : command_of (codes "run" ∷ codes "job.toml" ∷ codes "--failures=" ∷ []) ≡ None
+unfolding words_on_literals
+empty-failures = refl
+
+two-traces : command_of (codes "run" ∷ codes "job.toml" ∷ codes "--trace=t" ∷ codes "--trace=t" ∷ []) ≡ None
+unfolding words_on_literals
+two-traces = refl
+
+two-failures : command_of (codes "run" ∷ codes "job.toml" ∷ codes "--failures=f" ∷ codes "--failures=g" ∷ []) ≡ None
+unfolding words_on_literals
+two-failures = refl
+
+-- or a number of workers, with leading zeros or without
+run-with-workers : command_of (codes "run" ∷ codes "job.toml" ∷ codes "--workers" ∷ codes "8" ∷ [])
+    ≡ Some (run_job (codes "job.toml") (record { failures = None; trace = None; workers = Some 8 }))
+unfolding words_on_literals
+run-with-workers = refl
+
+workers-with-zeros : command_of (codes "run" ∷ codes "job.toml" ∷ codes "--workers=08" ∷ [])
+    ≡ Some (run_job (codes "job.toml") (record { failures = None; trace = None; workers = Some 8 }))
+unfolding words_on_literals
+workers-with-zeros = refl
+
+workers-and-failures : command_of (codes "run" ∷ codes "job.toml" ∷ codes "--workers=1" ∷ codes "--failures=f" ∷ [])
+    ≡ Some (run_job (codes "job.toml") (record { failures = Some (codes "f"); trace = None; workers = Some 1 }))
+unfolding words_on_literals
+workers-and-failures = refl
+
+no-workers : command_of (codes "run" ∷ codes "job.toml" ∷ codes "--workers" ∷ codes "0" ∷ []) ≡ None
+unfolding words_on_literals
+no-workers = refl
+
+nine-workers : command_of (codes "run" ∷ codes "job.toml" ∷ codes "--workers" ∷ codes "9" ∷ []) ≡ None
+unfolding words_on_literals
+nine-workers = refl
+
+workers-with-a-sign : command_of (codes "run" ∷ codes "job.toml" ∷ codes "--workers" ∷ codes "+1" ∷ []) ≡ None
+unfolding words_on_literals
+workers-with-a-sign = refl
+
+workers-behind-a-space : command_of (codes "run" ∷ codes "job.toml" ∷ codes "--workers" ∷ codes " 1" ∷ []) ≡ None
+unfolding words_on_literals
+workers-behind-a-space = refl
+
+empty-workers : command_of (codes "run" ∷ codes "job.toml" ∷ codes "--workers=" ∷ []) ≡ None
+unfolding words_on_literals
+empty-workers = refl
+
+two-workers : command_of (codes "run" ∷ codes "job.toml" ∷ codes "--workers=1" ∷ codes "--workers=1" ∷ []) ≡ None
+unfolding words_on_literals
+two-workers = refl
+
+workers-with-a-trace : command_of (codes "run" ∷ codes "job.toml" ∷ codes "--workers=1" ∷ codes "--trace=t" ∷ []) ≡ None
+unfolding words_on_literals
+workers-with-a-trace = refl
+
+-- other actions take none of these
+play-with-failures : command_of (codes "play" ∷ codes "job.toml" ∷ codes "--schedule=s" ∷ codes "--failures=f" ∷ []) ≡ None
+unfolding words_on_literals
+play-with-failures = refl
+
+play-with-a-trace : command_of (codes "play" ∷ codes "job.toml" ∷ codes "--schedule=s" ∷ codes "--trace=t" ∷ []) ≡ None
+unfolding words_on_literals
+play-with-a-trace = refl
+
+plain-with-workers : command_of (codes "plain" ∷ codes "job.toml" ∷ codes "--workers=1" ∷ []) ≡ None
+unfolding words_on_literals
+plain-with-workers = refl
+
+check-with-a-trace : command_of (codes "check" ∷ codes "job.toml" ∷ codes "--trace=t" ∷ []) ≡ None
+unfolding words_on_literals
+check-with-a-trace = refl

@@ -1,8 +1,10 @@
 ghost use Rattle.std.specs.Prelude.{◌≡◌, false, IfOk, map, option_map, string_bytes};
 ghost use Rattle.clap.specs.Words.{app_of, first_of, found_of, kind_of, rows_of, rule_of};
 ghost use Rattle.ss_words.specs.Words as spec;
-ghost use Rattle.ss_words.specs.Answers.{AnswersReading, command_text, fault_of_kind};
+ghost use Rattle.ss_words.specs.Answers.{AnswersReading, command_text, fault_of_kind, given_text, run_text};
 
+use crate::command::{Command, RunOptions};
+use crate::given::{Given, file_given, is_file_word, workers_given};
 use clap::error::ErrorKind;
 use clap::{Arg, ArgMatches, Error};
 use std::alloc::{AllocError, Global};
@@ -15,50 +17,11 @@ const SUBJECT: &str = "SUBJECT";
 
 const SCHEDULE: &str = "schedule";
 
-const MOST_FILE_BYTES: usize = 200;
+const FAILURES: &str = "failures";
 
-/// A command, as the words after the program's name give it. Names of files have 1 to 200 bytes.
-#[derive(Clone, Copy, Debug, PartialEq, Eq)]
-pub enum Command<'a> {
-    /// Shows the job, and does none of its work.
-    Check {
-        /// The job file.
-        job: &'a str,
-    },
-    /// Writes what each sink takes, computed as a whole.
-    Plain {
-        /// The job file.
-        job: &'a str,
-    },
-    /// Does the job's work.
-    Run {
-        /// The job file.
-        job: &'a str,
-    },
-    /// Makes the acts of a schedule on the job, one after the other.
-    Play {
-        /// The job file.
-        job: &'a str,
-        /// The schedule's file.
-        schedule: &'a str,
-    },
-}
+const TRACE: &str = "trace";
 
-impl<'a> Command<'a> {
-    ghost use Rattle.ss_words.specs.Words.{job_of};
-
-    /// The job file.
-    pub fn job(&self) -> &'a str
-        ensures { result.now ≡ job_of (command_text self.now) }
-    {
-        match self {
-            Command::Check { job } => job,
-            Command::Plain { job } => job,
-            Command::Run { job } => job,
-            Command::Play { job, .. } => job,
-        }
-    }
-}
+const WORKERS: &str = "workers";
 
 /// Why words give no command.
 #[derive(Clone, Copy, Debug, PartialEq, Eq)]
@@ -71,10 +34,12 @@ pub enum WordsFault {
 
 /// Reads the words after the program's name.
 ///
-/// A command is an action, `check`, `plain`, `run` or `play`, and then the name of a job file. With `play`, and with no
-/// other action, the option `--schedule` stands once, in any place before the word `--`, and names the schedule's
-/// file. Names have 1 to 200 bytes. A word that begins with `-` and has more bytes names a job file only behind the
-/// word `--`, and a schedule only as in `--schedule=-x`.
+/// A command is an action, `check`, `plain`, `run` or `play`, and then the name of a job file. Options stand in any
+/// place before the word `--`, each at most once. `play` takes `--schedule`, which has to be given and names the
+/// schedule's file. `run` takes `--failures`, the file that lists failures, and either `--trace`, the name that the
+/// trace is put to, or `--workers`, decimal digits with a value of 1 to 8. Names have 1 to 200 bytes. A word that
+/// begins with `-` and has more bytes names a job file only behind the word `--`, and is the value of an option only
+/// as in `--schedule=-x`.
 #[tactic(auto, unfolding(crate::specs::Words::command_of))]
 pub fn command_of(alloc: Global, words: &[String]) -> Result<Command<'_>, WordsFault>
     ensures { AnswersReading command_text result (spec.command_of (map string_bytes words.now)) }
@@ -103,18 +68,24 @@ fn matches_of(alloc: Global, words: &[String]) -> Result<ArgMatches<'_>, WordsFa
     }
 }
 
-/// The command line: an action, a subject and an option. The program's name is none of its words.
+/// The command line: an action, a subject and the options. The program's name is none of its words.
 fn command_line<'a>(alloc: Global) -> Result<clap::Command<'a>, AllocError>
     ensures { IfOk result (λ command_line. app_of command_line ≡ spec.command_line) }
 {
     let action = required_word(alloc, ACTION);
     let subject = required_word(alloc, SUBJECT);
     let schedule = option_with_value(alloc, SCHEDULE);
+    let failures = option_with_value(alloc, FAILURES);
+    let trace = option_with_value(alloc, TRACE);
+    let workers = option_with_value(alloc, WORKERS);
     clap::Command::new(alloc, PROGRAM)
         .no_binary_name(true)
         .arg(action)?
         .arg(subject)?
-        .arg(schedule)
+        .arg(schedule)?
+        .arg(failures)?
+        .arg(trace)?
+        .arg(workers)
 }
 
 /// A word that has to be given.
@@ -152,9 +123,18 @@ fn command_in<'a>(matches: &ArgMatches<'a>) -> Option<Command<'a>>
     if !is_file_word(job) {
         return None;
     }
-    match word_at(matches, SCHEDULE) {
-        Some(schedule) => with_schedule(action, job, schedule),
-        None => with_job(action, job),
+    command_for(action, job, &given_in(matches))
+}
+
+/// The values of the options that `clap` found.
+fn given_in<'a>(matches: &ArgMatches<'a>) -> Given<'a>
+    ensures { given_text result ≡ spec.given_in (rows_of (found_of matches.now)) }
+{
+    Given {
+        schedule: word_at(matches, SCHEDULE),
+        failures: word_at(matches, FAILURES),
+        trace: word_at(matches, TRACE),
+        workers: word_at(matches, WORKERS),
     }
 }
 
@@ -165,32 +145,69 @@ fn word_at<'a>(matches: &ArgMatches<'a>, name: &str) -> Option<&'a str>
     matches.get_str(name)
 }
 
-/// The command of an action with a job file alone.
-fn with_job<'a>(action: &str, job: &'a str) -> Option<Command<'a>>
-    ensures { option_map command_text result ≡ spec.with_job action.now job.entry.now }
+/// The command of an action with a job file and options.
+fn command_for<'a>(action: &str, job: &'a str, given: &Given<'a>) -> Option<Command<'a>>
+    ensures { option_map command_text result
+        ≡ spec.command_for action.now job.entry.now (given_text given.now) }
 {
     match action {
-        "check" => Some(Command::Check { job }),
-        "plain" => Some(Command::Plain { job }),
-        "run" => Some(Command::Run { job }),
+        "check" => alone(Command::Check { job }, given),
+        "plain" => alone(Command::Plain { job }, given),
+        "run" => run_of(job, given),
+        "play" => play_of(job, given),
         _ => None,
     }
 }
 
-/// The command of an action with a job file and a schedule.
-fn with_schedule<'a>(action: &str, job: &'a str, schedule: &'a str) -> Option<Command<'a>>
-    ensures { option_map command_text result ≡ spec.with_schedule action.now job.entry.now schedule.entry.now }
+/// A command that takes no option.
+fn alone<'a>(command: Command<'a>, given: &Given<'a>) -> Option<Command<'a>>
+    ensures { option_map command_text result ≡ spec.alone (command_text command.entry) (given_text given.now) }
 {
-    if action == "play" && is_file_word(schedule) {
-        Some(Command::Play { job, schedule })
+    if given.gives_no_run() && given.schedule.is_none() {
+        Some(command)
     } else {
         None
     }
 }
 
-/// Whether a word may name a file: it has 1 to 200 bytes.
-fn is_file_word(word: &str) -> bool
-    ensures { result ≡ spec.is_file_word word.now }
+/// A job is run with these options.
+fn run_of<'a>(job: &'a str, given: &Given<'a>) -> Option<Command<'a>>
+    ensures { option_map command_text result
+        ≡ option_map (spec.run_job job.entry.now) (spec.run_given (given_text given.now)) }
 {
-    !word.is_empty() && word.len() <= MOST_FILE_BYTES
+    let run = run_given(given)?;
+    Some(Command::Run { job, run })
+}
+
+/// How a job is run: with workers there is no trace.
+fn run_given<'a>(given: &Given<'a>) -> Option<RunOptions<'a>>
+    ensures { option_map run_text result ≡ spec.run_given (given_text given.now) }
+{
+    if given.schedule.is_some() || (given.trace.is_some() && given.workers.is_some()) {
+        return None;
+    }
+    let failures = file_given(given.failures)?;
+    let trace = file_given(given.trace)?;
+    let workers = workers_given(given.workers)?;
+    Some(RunOptions {
+        failures,
+        trace,
+        workers,
+    })
+}
+
+/// A schedule is played on a job.
+fn play_of<'a>(job: &'a str, given: &Given<'a>) -> Option<Command<'a>>
+    ensures { option_map command_text result
+        ≡ option_map (spec.play_job job.entry.now) (spec.schedule_given (given_text given.now)) }
+{
+    if !given.gives_no_run() {
+        return None;
+    }
+    let schedule = given.schedule?;
+    if is_file_word(schedule) {
+        Some(Command::Play { job, schedule })
+    } else {
+        None
+    }
 }
