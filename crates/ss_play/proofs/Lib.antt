@@ -1,4 +1,5 @@
 pub mod ActsOfSchedules
+pub mod Failures
 pub mod Least
 pub mod Plants
 pub mod PlayEnds

@@ -18,7 +18,7 @@ use Rattle.ss_plan.specs.Plan.{PlanText}
 use Rattle.ss_report.specs.TraceText.{IsActOf}
 use Rattle.ss_state.specs.Numbers.{vertex}
 use Rattle.ss_state.specs.State.{InstNumbers, insts_at}
-use Rattle.ss_state.specs.Step.{Made}
+use Rattle.ss_state.specs.Step.{Made, MayAct}
 use Rattle.ss_vertex.specs.Inst.{InstState, inst_numbers}
 
 -- ---- acts that can be made name vertices with roles
@@ -27,24 +27,24 @@ in_roles : (plan : PlanText) (v : ℕ) → length (plan_numbers plan).vertices �
     → v < length plan.job.roles
 in_roles plan v count h = omega (arith, count, h)
 
-may_be_told : (plan : PlanText) → length (plan_numbers plan).vertices ≡ length plan.job.roles → (a : Act) → MayApply plan a
+may_be_told : (plan : PlanText) → length (plan_numbers plan).vertices ≡ length plan.job.roles → (a : Act) → MayAct (plan_numbers plan) a
     → IsActOf plan.job.roles a
-may_be_told plan count (act.Read v r) may = in_roles plan v count may.0.0.0
-may_be_told plan count (act.Write v r) may = in_roles plan v count may.0.0.0
-may_be_told plan count (act.Snap v r) may = in_roles plan v count may.0.0.0
-may_be_told plan count (act.Crash v r) may = in_roles plan v count may.0.0.0
-may_be_told plan count (act.Load v r) may = in_roles plan v count may.0.0.0
-may_be_told plan count (act.Lose v) may = in_roles plan v count may.0.0
-may_be_told plan count (act.Flush v most) may = in_roles plan v count may.0.0.0
-may_be_told plan count (act.Take k) may = in_roles plan k count may.0.0
-may_be_told plan count (act.Collect v) may = in_roles plan v count may.0.0
-may_be_told plan count (act.Trim v) may = in_roles plan v count may.0.0
+may_be_told plan count (act.Read v r) may = in_roles plan v count may.0.0
+may_be_told plan count (act.Write v r) may = in_roles plan v count may.0.0
+may_be_told plan count (act.Snap v r) may = in_roles plan v count may.0.0
+may_be_told plan count (act.Crash v r) may = in_roles plan v count may.0.0
+may_be_told plan count (act.Load v r) may = in_roles plan v count may.0.0
+may_be_told plan count (act.Lose v) may = in_roles plan v count may.0
+may_be_told plan count (act.Flush v most) may = in_roles plan v count may.0.0
+may_be_told plan count (act.Take k) may = in_roles plan k count may.0
+may_be_told plan count (act.Collect v) may = in_roles plan v count may.0
+may_be_told plan count (act.Trim v) may = in_roles plan v count may.0
 may_be_told plan count act.Pass may = tt
 
 no_made : Made
 no_made = record { act = act.Pass; outcome = outcome.Idle }
 
-pub pairs_told : (plan : PlanText) → length (plan_numbers plan).vertices ≡ length plan.job.roles → (pairs : List (Act × Outcome)) → All (MayApply plan) (acts_of (made_of pairs))
+pub pairs_told : (plan : PlanText) → length (plan_numbers plan).vertices ≡ length plan.job.roles → (pairs : List (Act × Outcome)) → All (MayAct (plan_numbers plan)) (acts_of (made_of pairs))
     → All (λ pair. IsActOf plan.job.roles pair.0) pairs
 pairs_told plan count pairs may k d lt =
     let many : length (made_of pairs) ≡ length pairs = length-map pairs _ in
@@ -56,7 +56,7 @@ pairs_told plan count pairs may k d lt =
     let same : get_or (acts_of (made_of pairs)) k act.Pass ≡ (get_or pairs k d).0 = two ∙ ap (λ (m : Made). m.act) one in
     let more : length (acts_of (made_of pairs)) ≡ length (made_of pairs) = length-map (made_of pairs) _ in
     may_be_told plan count (get_or pairs k d).0
-    (subst (MayApply plan) same (may k act.Pass (omega (arith, lt2, more))))
+    (subst (MayAct (plan_numbers plan)) same (may k act.Pass (omega (arith, lt2, more))))
 
 -- ---- the parts of a job that is joint
 
@@ -96,3 +96,7 @@ inst_within p joint v r inst h e =
     let many = many_insts p joint v h in
     let all = joint.numbers.replicas v in
     omega (arith, lt, many, all)
+
+-- acts that can be made on a job are acts of its numbers
+pub may_act : (plan : PlanText) (acts : List Act) → All (MayApply plan) acts → All (MayAct (plan_numbers plan)) acts
+may_act plan acts may = may

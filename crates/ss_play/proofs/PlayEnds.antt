@@ -11,7 +11,7 @@ use Rattle.ss_acts.specs.declared.fault.EngineFault.TheVariants as engine
 use Rattle.ss_engine.specs.Applies.{CanMeet, IsCause, IsFullAt, MayApply}
 use Rattle.ss_engine.specs.Begins.{Begins}
 use Rattle.ss_engine.specs.Joint.{Joint}
-use Rattle.ss_engine.specs.Plays.{PlaysAll, PlaysUpTo, StopsAt, acts_of}
+use Rattle.ss_engine.specs.Plays.{PlaysAll, PlaysUpTo, Runs, StopsAt, acts_of}
 use Rattle.ss_engine.specs.Told.{PlantTold, state_of}
 use Rattle.ss_fail.specs.declared.act.Act.{Act}
 use Rattle.ss_fail.specs.declared.act.Act.TheVariants as act
@@ -25,7 +25,7 @@ use Rattle.ss_plan.specs.Streams.{every}
 use Rattle.ss_state.specs.IsNumbers.{IsNumbers}
 use Rattle.ss_state.specs.Numbers.{JobNumbers, VertexNumbers, input, out, size, sum_of, vertex, wanted_input}
 use Rattle.ss_state.specs.State.{InstNumbers, LedgerRow, State, empty_row, inst_at}
-use Rattle.ss_state.specs.Step.{Made, Run, has_passed, is_full, read_at, wanted_vertex}
+use Rattle.ss_state.specs.Step.{Made, MayAct, Run, has_passed, is_full, read_at, wanted_vertex}
 use Rattle.ss_state.specs.declared.entry.Entry.{Entry}
 use Rattle.ss_vault.specs.Calls.{RefusesStart}
 use Rattle.ss_vault.specs.Counts.{NoneFell, counts_told}
@@ -36,9 +36,9 @@ use Rattle.ss_vault.specs.declared.counts.Counts.{Counts}
 use Rattle.ss_vault.specs.declared.fault.VaultFault.{VaultFault}
 use Rattle.ss_vault.specs.declared.fault.VaultFault.TheVariants as vault
 use Rattle.ss_play.specs.Ending.{Ends, EndsAll, EndsEarly, devices_of}
-use Rattle.ss_play.specs.Playing.{Devices, EndsPlaying, IsCauseOf, NoCountFell, Played, PutsToSinks, Tells}
+use Rattle.ss_play.specs.Laws.{AllAreTold, RefusalsAreTold, SinceStart, StopsAreTold}
+use Rattle.ss_play.specs.Playing.{AreMarks, Devices, EndsPlaying, IsCauseOf, NoCountFell, Played, PutsToSinks, StopsPlaying, Tells}
 use Rattle.ss_play.specs.Faults.{IsOfStart, of_engine, of_vault}
-use Rattle.ss_play.specs.Report.{report_text}
 use Rattle.ss_play.specs.declared.fault.PlayFault.{PlayFault}
 use Rattle.ss_play.specs.declared.fault.PlayFault.TheVariants as fault
 use Rattle.ss_play.specs.declared.playing.Report.{Report}
@@ -85,15 +85,15 @@ passed_within most x (Some up) e =
     let within = out_within x up.n in
     omega (arith, more, within)
 
-full_is_long : (plan : PlanText) → PlanFacts plan → (s : State) (w r : ℕ) → MayApply plan (act.Read w r)
+full_is_long : (plan : PlanText) → PlanFacts plan → (s : State) (w r : ℕ) → MayAct (plan_numbers plan) (act.Read w r)
     → is_full (plan_numbers plan) s (act.Read w r) ≡ true → IsLongAmong every plan w
 full_is_long plan facts s w r may e =
     let more = passed_within (plan_numbers plan).max_elements (vertex (plan_numbers plan) w) (read_at (plan_numbers plan) s w r).inst e in
     let most = facts.most in
-    let many = facts.size w may.0.0 in
+    let many = facts.size w may.0 in
     (refl, omega (arith, more, most, many))
 
-long : (p : PlantTold) → PlanFacts p.plan → (a : Act) (v reached : ℕ) → MayApply p.plan a → IsFullAt p a v reached
+long : (p : PlantTold) → PlanFacts p.plan → (a : Act) (v reached : ℕ) → MayAct (plan_numbers p.plan) a → IsFullAt p a v reached
     → IsLongAmong every p.plan v
 long p facts (act.Read w r) v reached may is =
     subst (IsLongAmong every p.plan) (sym is.0) (full_is_long p.plan facts (state_of p) w r may is.2)
@@ -127,23 +127,23 @@ wanted_within : (job : JobNumbers) → IsNumbers job → (v : ℕ) (inst : Optio
 wanted_within job numbers v None h = omega (arith, h)
 wanted_within job numbers v (Some up) h = input_within job numbers v (wanted_input (vertex job v) up.n) h
 
-damaged_within : (p : PlantTold) → PlanFacts p.plan → (a : Act) (v n : ℕ) → MayApply p.plan a → CanMeet p a (vault.Damaged v n)
+damaged_within : (p : PlantTold) → PlanFacts p.plan → (a : Act) (v n : ℕ) → MayAct (plan_numbers p.plan) a → CanMeet p a (vault.Damaged v n)
     → v < length (plan_numbers p.plan).vertices
 damaged_within p facts (act.Read w r) v n may is =
-    let within = wanted_within (plan_numbers p.plan) facts.numbers w (inst_at (state_of p) w r) may.0.0.0 in
+    let within = wanted_within (plan_numbers p.plan) facts.numbers w (inst_at (state_of p) w r) may.0.0 in
     let same = is.0 in
     omega (arith, within, same)
 damaged_within p facts (act.Write w r) v n may is = absurd is
 damaged_within p facts (act.Snap w r) v n may is = absurd is
 damaged_within p facts (act.Crash w r) v n may is = absurd is
 damaged_within p facts (act.Load w r) v n may is =
-    let within = may.0.0.0 in
+    let within = may.0.0 in
     let same = is.0 in
     omega (arith, within, same)
 damaged_within p facts (act.Lose w) v n may is = absurd is
 damaged_within p facts (act.Flush w count) v n may is = absurd is
 damaged_within p facts (act.Take k) v n may is =
-    let within = input_within (plan_numbers p.plan) facts.numbers k 0 may.0.0 in
+    let within = input_within (plan_numbers p.plan) facts.numbers k 0 may.0 in
     let same = is.0 in
     omega (arith, within, same)
 damaged_within p facts (act.Collect w) v n may is = absurd is
@@ -161,7 +161,7 @@ not_halted : (halted : Option VaultFault) → halted ≡ None → IsSome halted 
 not_halted None e is = absurd cc
 not_halted (Some f) e is = absurd cc
 
-told_by_vault : (p : PlantTold) → PlanFacts p.plan → (a : Act) (entry : Option Entry) (q : PlantTold) (f : VaultFault) → MayApply p.plan a
+told_by_vault : (p : PlantTold) → PlanFacts p.plan → (a : Act) (entry : Option Entry) (q : PlantTold) (f : VaultFault) → MayAct (plan_numbers p.plan) a
     → p.vault.halted ≡ None → Fails (CanMeet p a) p.plan p.vault entry (engine.Vault f) q.vault → Told p.plan p.vault (of_vault f) q.vault
 told_by_vault p facts a entry q (vault.Store count) may going fails =
     record { cause = fails.1.1; counts = fails.1.2.counts }
@@ -175,7 +175,7 @@ told_by_vault p facts a entry q (vault.Damaged v n) may going fails =
 told_by_vault p facts a entry q vault.Halted may going fails = absurd (not_halted p.vault.halted going fails.0)
 told_by_vault p facts a entry q vault.Memory may going fails = absurd fails
 
-told_act : (p : PlantTold) → PlanFacts p.plan → (a : Act) (q : PlantTold) (f : EngineFault) → MayApply p.plan a
+told_act : (p : PlantTold) → PlanFacts p.plan → (a : Act) (q : PlantTold) (f : EngineFault) → MayAct (plan_numbers p.plan) a
     → p.vault.halted ≡ None → IsCause p a q f → Told p.plan p.vault (of_engine f) q.vault
 told_act p facts a q (engine.Vault f) may going cause = told_by_vault p facts a cause.0 q f may going cause.1
 told_act p facts a q (engine.Full v reached) may going cause =
@@ -195,30 +195,30 @@ no_memory p q f e same =
     let begun : Stopped p fault.Memory p = record { plan = refl; told = record { cause = tt; counts = nothing_fell p.vault } } in
     subst (λ (g : EngineFault). Stopped p (of_engine g) q) (sym e) (subst (Stopped p fault.Memory) (sym same) begun)
 
-stopped : (p : PlantTold) → PlanFacts p.plan → (a : Act) (q : PlantTold) (f : EngineFault) → MayApply p.plan a
+stopped : (p : PlantTold) → PlanFacts p.plan → (a : Act) (q : PlantTold) (f : EngineFault) → MayAct (plan_numbers p.plan) a
     → p.vault.halted ≡ None → StopsAt p a q f → Stopped p (of_engine f) q
 stopped p facts a q f may going (inl meets) = record { plan = meets.plan; told = told_act p facts a q f may going meets.cause }
 stopped p facts a q f may going (inr none) = no_memory p q f none.0 none.1
 
 -- ---- a list of acts
 
-next_may : (plan : PlanText) (acts before rest : List Act) (next : Act) → acts ≡ before ++ next ∷ rest → All (MayApply plan) acts
-    → MayApply plan next
+next_may : (plan : PlanText) (acts before rest : List Act) (next : Act) → acts ≡ before ++ next ∷ rest → All (MayAct (plan_numbers plan)) acts
+    → MayAct (plan_numbers plan) next
 next_may plan acts before rest next e may =
     let lt : length before < length acts = let many = ap length e ∙ length-append before (next ∷ rest) in omega (arith, many) in
-    subst (MayApply plan)
+    subst (MayAct (plan_numbers plan))
     (ap (λ (xs : List Act). get_or xs (length before) next) e ∙ get_or_at before next rest next (length before) refl)
     (may (length before) next lt)
 
 pub ends_early : (p : PlantTold) → PlanFacts p.plan → (acts : List Act) (before after : List Made) (f : EngineFault) (q : PlantTold)
-    → p.vault.halted ≡ None → All (MayApply p.plan) acts → before ≡ [] → PlaysUpTo p acts before f q after
+    → p.vault.halted ≡ None → All (MayAct (plan_numbers p.plan)) acts → before ≡ [] → PlaysUpTo p acts before f q after
     → EndsEarly p acts (of_engine f) q
 ends_early p facts acts before after f q going may none plays =
     let mid = plays.between in
     let same : mid.plan ≡ p.plan = plays.runs.plan in
-    let may_next : MayApply p.plan plays.next = next_may p.plan acts (acts_of plays.made) plays.rest plays.next plays.are may in
+    let may_next : MayAct (plan_numbers p.plan) plays.next = next_may p.plan acts (acts_of plays.made) plays.rest plays.next plays.are may in
     let stop : Stopped mid (of_engine f) q =
-    stopped mid (subst PlanFacts (sym same) facts) plays.next q f (subst (λ (plan : PlanText). MayApply plan plays.next) (sym same) may_next)
+    stopped mid (subst PlanFacts (sym same) facts) plays.next q f (subst (λ (plan : PlanText). MayAct (plan_numbers plan) plays.next) (sym same) may_next)
     (plays.runs.goes.halted ∙ going) plays.stops in
     let counts : NoCountFell (devices_of p.vault) (devices_of mid.vault) = plays.runs.goes.counts in
     record {
@@ -229,6 +229,17 @@ ends_early p facts acts before after f q going may none plays =
       counts = fell_never (counts_of p.vault) (counts_of mid.vault) (counts_of q.vault) counts stop.told.counts;
       outputs = plays.outputs;
     }
+
+-- all acts were made, but there was no memory to tell of them
+ends_untold : (p : PlantTold) (acts : List Act) (after : List Made) (f : PlayFault) (q : PlantTold) → PlaysAll p acts [] q after
+    → f ≡ fault.Memory → EndsEarly p acts f q
+ends_untold p acts after f q plays memory = record {
+  plan = plays.runs.plan;
+  stops = inr (after, plays, memory);
+  cause = subst (λ (g : PlayFault). IsCauseOf p.plan (devices_of p.vault) g (devices_of q.vault)) (sym memory) tt;
+  counts = plays.runs.goes.counts;
+  outputs = plays.runs.outputs;
+}
 
 -- all acts were made, and telling of them went well, or wanted memory
 pub ends_told : (p : PlantTold) (acts : List Act) (before after : List Made) (q : PlantTold) (answer : Result Report PlayFault)
@@ -241,13 +252,8 @@ ends_told p acts before after q (Ok report) plays none tells memory = record {
   tells = subst (λ (made : List Made). Tells q.plan made (state_of q) report)
       (plays.trace ∙ ap (λ (made : List Made). made ++ plays.made) none) tells;
 }
-ends_told p acts before after q (Err f) plays none tells memory = record {
-  plan = plays.runs.plan;
-  stops = inr (after, subst (λ (made : List Made). PlaysAll p acts made q after) none plays, memory);
-  cause = subst (λ (g : PlayFault). IsCauseOf p.plan (devices_of p.vault) g (devices_of q.vault)) (sym memory) tt;
-  counts = plays.runs.goes.counts;
-  outputs = plays.runs.outputs;
-}
+ends_told p acts before after q (Err f) plays none tells memory =
+    ends_untold p acts after f q (subst (λ (made : List Made). PlaysAll p acts made q after) none plays) memory
 
 -- the acts that were made may be told of
 pub may_be_made : (p : PlantTold) (acts : List Act) (before after : List Made) (q : PlantTold) → PlaysAll p acts before q after → before ≡ []
@@ -274,35 +280,39 @@ module _ (plan : PlanText) (acts : List Act) (before : Devices) (p q : PlantTold
       subst (λ (told : OutputsTold). PutsToSinks plan told q.vault.outputs) began.same_outputs
       (subst (λ (text : PlanText). PutsToSinks text p.vault.outputs q.vault.outputs) began.of_plan others)
 
-  plays_all : (report : Report) → EndsAll p acts report q → EndsPlaying plan acts before (Ok report) (devices_of q.vault)
-  plays_all report ends =
-      let of_plan : q.plan ≡ plan = ends.runs.plan ∙ began.of_plan in
+  played : (made : List Made) → acts_of made ≡ acts → Runs p made q → Played plan acts before made (state_of q) (devices_of q.vault)
+  played made are runs =
+      let of_plan : q.plan ≡ plan = runs.plan ∙ began.of_plan in
       let sound : Sound plan q.vault = subst (λ (text : PlanText). Sound text q.vault) of_plan left.parts.vault in
-      let going : q.vault.halted ≡ None = ends.runs.goes.halted ∙ began.halted in
-      let s : State = state_of q in
-      let run_from : Run (plan_numbers plan) (state_of p) ends.made s =
-      subst (λ (text : PlanText). Run (plan_numbers text) (state_of p) ends.made s) began.of_plan ends.runs.run in
-      let played : Played plan acts before ends.made s (devices_of q.vault) = record {
+      let going : q.vault.halted ≡ None = runs.goes.halted ∙ began.halted in
+      let run_from : Run (plan_numbers plan) (state_of p) made (state_of q) =
+      subst (λ (text : PlanText). Run (plan_numbers text) (state_of p) made (state_of q)) began.of_plan runs.run in
+      record {
         start = p;
         end = q;
         begins = began;
-        runs = ends.runs;
+        runs = runs;
         of_plan = of_plan;
         joint = left;
         state = refl;
         going = going;
         outputs = refl;
         depot = refl;
-        are = ends.are;
-        run = subst (λ (start : State). Run (plan_numbers plan) start ends.made s) began.state run_from;
+        are = are;
+        run = subst (λ (start : State). Run (plan_numbers plan) start made (state_of q)) began.state run_from;
         files = subst (λ (halted : Option VaultFault). HasFiles plan (numbers_of q.vault).ledger halted q.vault.outputs) going
             sound.delivered.files;
-        others = others_to ends.runs.outputs;
+        others = others_to runs.outputs;
         holds = record { records = sound.records; frames = λ v n. (sound.snapshots v).frames n };
-        counts = fell_to ends.runs.goes.counts;
-      } in
-      let tells : Tells plan ends.made s report = subst (λ (text : PlanText). Tells text ends.made s report) of_plan ends.tells in
-      (ends.made, s, played, tells)
+        counts = fell_to runs.goes.counts;
+      }
+
+  plays_all : (report : Report) → EndsAll p acts report q → EndsPlaying plan acts before (Ok report) (devices_of q.vault)
+  plays_all report ends =
+      let of_plan : q.plan ≡ plan = ends.runs.plan ∙ began.of_plan in
+      let tells : Tells plan ends.made (state_of q) report =
+      subst (λ (text : PlanText). Tells text ends.made (state_of q) report) of_plan ends.tells in
+      (ends.made, state_of q, played ends.made ends.are ends.runs, tells)
 
   plays_early : (f : PlayFault) → EndsEarly p acts f q → EndsPlaying plan acts before (Err f) (devices_of q.vault)
   plays_early f ends =
@@ -368,6 +378,30 @@ refused plan acts f before after same refuses =
       counts = record { faults = faults; output_faults = omega (arith, of_outputs); shorts = shorts };
     }
 
+-- ---- acts that others chose
+
+pub all_told : AllAreTold
+all_told plan before p q acts made since plays =
+    subst (λ (list : List Made). Played plan acts before list (state_of q) (devices_of q.vault)) (sym plays.trace)
+    (played plan acts before p q since.begins since.joint since.left plays.made plays.are plays.runs)
+
+stops_of : (plan : PlanText) (before : Devices) (p q : PlantTold) (acts : List Act) (f : PlayFault) → SinceStart plan before p q
+    → EndsEarly p acts f q → StopsPlaying plan acts before f (devices_of q.vault)
+stops_of plan before p q acts f since early = plays_early plan acts before p q since.begins since.joint since.left f early
+
+pub stops_told : StopsAreTold
+stops_told plan before p q acts f facts since may (inl (e, trace, plays, is)) =
+    let of_plan : plan ≡ p.plan = sym since.begins.of_plan in
+    let early : EndsEarly p acts (of_engine e) q =
+    ends_early p (subst PlanFacts of_plan facts) acts [] trace e q since.begins.halted
+    (subst (λ (text : PlanText). All (MayAct (plan_numbers text)) acts) of_plan may) refl plays in
+    stops_of plan before p q acts f since (subst (λ (g : PlayFault). EndsEarly p acts g q) (sym is) early)
+stops_told plan before p q acts f facts since may (inr (trace, plays, memory)) =
+    stops_of plan before p q acts f since (ends_untold p acts trace f q plays memory)
+
+pub refusals_told : RefusalsAreTold
+refusals_told plan before after acts f same refuses = refused plan acts f before after same refuses
+
 -- ---- what is told
 
 mark_in : (rows : List LedgerRow) (v mark : ℕ) (row : Option LedgerRow) → slice_get rows v ≡ row
@@ -377,13 +411,11 @@ mark_in rows v mark (Some row) is e =
     let same : row.mark ≡ mark = cc in
     sym same ∙ sym (ap (λ (r : LedgerRow). r.mark) (get_or_from_slice_get rows v row empty_row is))
 
--- a text and the marks of all rows tell a job
-pub tells : (plan : PlanText) (made : List Made) (s : State) (report : Report) → report.text.items ≡ report_text plan made s
-    → report.marks.items ≡ map (λ row. row.mark) s.vault.ledger.rows
-    → length s.vault.ledger.rows ≡ length (plan_numbers plan).vertices → Tells plan made s report
-tells plan made s report is_text are_marks many = record {
-  text = is_text;
-  many = ap length are_marks ∙ length-map s.vault.ledger.rows (λ row. row.mark) ∙ many;
-  marks = λ v mark is. mark_in s.vault.ledger.rows v mark (slice_get s.vault.ledger.rows v) refl
-      (sym (slice_get-map (λ row. row.mark) s.vault.ledger.rows v) ∙ sym (ap (λ (ms : List ℕ). slice_get ms v) are_marks) ∙ is);
+-- the marks of all rows are those of the vertices
+pub marks_are : (plan : PlanText) (s : State) (marks : List ℕ) → marks ≡ map (λ row. row.mark) s.vault.ledger.rows
+    → length s.vault.ledger.rows ≡ length (plan_numbers plan).vertices → AreMarks plan s marks
+marks_are plan s marks are many = record {
+  many = ap length are ∙ length-map s.vault.ledger.rows (λ row. row.mark) ∙ many;
+  each = λ v mark is. mark_in s.vault.ledger.rows v mark (slice_get s.vault.ledger.rows v) refl
+      (sym (slice_get-map (λ row. row.mark) s.vault.ledger.rows v) ∙ sym (ap (λ (ms : List ℕ). slice_get ms v) are) ∙ is);
 }

@@ -63,20 +63,23 @@ lines_more plan s v start now next before line =
 
 -- ---- the report
 
-pub report_is : (p : PlantTold) (plan : PlanText) (roles : List Role) (pairs : List (Act × Outcome)) (made : List Made) (vault : VaultTold)
-    → plan ≡ p.plan → roles ≡ plan.job.roles → made_of pairs ≡ made → vault ≡ p.vault → (a b c d : List ℕ)
-    → a ≡ [] → b ≡ a ++ whole_trace roles pairs
+pub report_is : (p : PlantTold) (plan : PlanText) (made : List Made) (vault : VaultTold) → plan ≡ p.plan → vault ≡ p.vault
+    → (b c d : List ℕ) → b ≡ trace_lines plan.job.roles made
     → c ≡ b ++ lines_below p.plan (state_of p) (length (plan_numbers p.plan).vertices)
     → d ≡ c ++ journal_text (length (numbers_of vault).journal) (numbers_of vault).ledger.since
     → d ≡ report_text p.plan made (state_of p)
-report_is p plan roles pairs made vault same_plan same_roles same_made same_vault a b c d none first second third =
+report_is p plan made vault same_plan same_vault b c d first second third =
     let lines : List ℕ = lines_below p.plan (state_of p) (length (plan_numbers p.plan).vertices) in
-    let roles_are : roles ≡ p.plan.job.roles = same_roles ∙ ap (λ (text : PlanText). text.job.roles) same_plan in
-    let trace : b ≡ trace_lines p.plan.job.roles made =
-    first ∙ ap (λ (t : List ℕ). t ++ whole_trace roles pairs) none ∙ sym (trace_is roles pairs)
-    ∙ ap (λ (rs : List Role). trace_lines rs (made_of pairs)) roles_are ∙ ap (trace_lines p.plan.job.roles) same_made in
+    let trace : b ≡ trace_lines p.plan.job.roles made = first ∙ ap (λ (text : PlanText). trace_lines text.job.roles made) same_plan in
     third
     ∙ ap (λ (told : VaultTold). c ++ journal_text (length (numbers_of told).journal) (numbers_of told).ledger.since) same_vault
     ∙ ap (λ (t : List ℕ). t ++ journal_text (length (numbers_of p.vault).journal) (numbers_of p.vault).ledger.since)
     (second ∙ ap (λ (t : List ℕ). t ++ lines) trace)
     ∙ append_assoc (trace_lines p.plan.job.roles made) lines (journal_text (length (numbers_of p.vault).journal) (numbers_of p.vault).ledger.since)
+
+-- the lines of pairs of act and outcome
+pub trace_text_is : (plan : PlanText) (roles : List Role) (pairs : List (Act × Outcome)) (made : List Made) (a b : List ℕ)
+    → roles ≡ plan.job.roles → made_of pairs ≡ made → a ≡ [] → b ≡ a ++ whole_trace roles pairs → b ≡ trace_lines plan.job.roles made
+trace_text_is plan roles pairs made a b same_roles same_made none line =
+    line ∙ ap (λ (t : List ℕ). t ++ whole_trace roles pairs) none ∙ sym (trace_is roles pairs)
+    ∙ ap (λ (rs : List Role). trace_lines rs (made_of pairs)) same_roles ∙ ap (trace_lines plan.job.roles) same_made

@@ -1,5 +1,6 @@
 pub mod Ending
 pub mod Faults
+pub mod Laws
 pub mod Lines
 pub mod Playing
 pub mod Releasing

@@ -107,11 +107,15 @@ pub record StopsPlaying (plan : PlanText) (acts : List Act) (before : Devices) (
   pub others : PutsToSinks plan before.outputs after.outputs
   pub counts : NoCountFell before after
 
+-- these are the marks of its vertices
+pub record AreMarks (plan : PlanText) (s : State) (marks : List ℕ) : Type 0 where
+  pub many : length marks ≡ length (plan_numbers plan).vertices
+  pub each : (v : ℕ) (mark : ℕ) → slice_get marks v ≡ Some mark → mark ≡ (row_at s.vault.ledger v).mark
+
 -- what is told of a job whose acts were all made: its report, and the mark of each vertex
 pub record Tells (plan : PlanText) (made : List Made) (s : State) (report : Report) : Type 0 where
   pub text : report.text.items ≡ report_text plan made s
-  pub many : length report.marks.items ≡ length (plan_numbers plan).vertices
-  pub marks : (v : ℕ) (mark : ℕ) → slice_get report.marks.items v ≡ Some mark → mark ≡ (row_at s.vault.ledger v).mark
+  pub marks : AreMarks plan s report.marks.items
 
 abbrev pub EndsPlaying : PlanText → List Act → Devices → Result Report PlayFault → Devices → Type 0
 EndsPlaying plan acts before (Ok report) after =

@@ -6,17 +6,16 @@ ghost use Rattle.ss_engine.specs.Plays.{acts_of};
 ghost use Rattle.ss_engine.specs.Told.{plant_told, state_of};
 ghost use Rattle.ss_outside.specs.Depot.{no_contents};
 ghost use Rattle.ss_play.specs.Ending.{Ends};
-ghost use Rattle.ss_play.specs.Faults.{of_engine, of_vault};
 ghost use Rattle.ss_play.specs.Playing.{EndsPlaying, Tells};
 ghost use Rattle.ss_vault.specs.Calls.{HaveNoBytes};
 
 use crate::fault::PlayFault;
 use crate::reporting::{marks_of, report_of};
-use ss_engine::{EngineFault, Plant, Trace, play};
+use ss_engine::{Plant, Trace, play};
 use ss_fail::Act;
 use ss_outside::{Depot, Outputs};
 use ss_plan::Plan;
-use ss_vault::{VaultFault, plan_facts};
+use ss_vault::plan_facts;
 use std::alloc::Global;
 use std::sync::Arc;
 
@@ -65,7 +64,7 @@ pub fn play_acts<O: Outputs, D: Depot>(
             }
         }
         Err(refused) => Played {
-            answer: Err(of_vault(refused.fault)),
+            answer: Err(PlayFault::of_vault(refused.fault)),
             outputs: refused.outputs,
             depot: refused.depot,
         },
@@ -88,7 +87,7 @@ fn play_on<O: Outputs, D: Depot>(
     let mut trace = Trace::new(alloc);
     match play(plant, acts, &mut trace) {
         Ok(()) => tell(alloc, plant, &trace),
-        Err(fault) => Err(of_engine(fault)),
+        Err(fault) => Err(PlayFault::of_engine(fault)),
     }
 }
 
@@ -107,27 +106,4 @@ fn tell<O: Outputs, D: Depot>(
     let text = report_of(alloc, plant, trace)?;
     let marks = marks_of(alloc, plant)?;
     Ok(Report { text, marks })
-}
-
-/// What an act's fault tells of a job that is played.
-fn of_engine(fault: EngineFault) -> PlayFault
-    ensures { result ≡ of_engine fault }
-{
-    match fault {
-        EngineFault::Vault(fault) => of_vault(fault),
-        EngineFault::Full { v, .. } => PlayFault::Full { v },
-        EngineFault::Memory => PlayFault::Memory,
-    }
-}
-
-/// What a vault's fault tells of a job that is played: none is halted before it meets another.
-fn of_vault(fault: VaultFault) -> PlayFault
-    ensures { result ≡ of_vault fault }
-{
-    match fault {
-        VaultFault::Store { .. } => PlayFault::Store,
-        VaultFault::Output { .. } => PlayFault::Output,
-        VaultFault::Damaged { v, n } => PlayFault::Damaged { v, n },
-        VaultFault::Halted | VaultFault::Memory => PlayFault::Memory,
-    }
 }

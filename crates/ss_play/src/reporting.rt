@@ -7,12 +7,15 @@ ghost use Rattle.ss_engine.specs.Plays.{acts_of};
 ghost use Rattle.ss_engine.specs.Told.{plant_told, state_of};
 ghost use Rattle.ss_frames.specs.Plans.{plan_numbers};
 ghost use Rattle.ss_play.specs.Lines.{inner_text, source_text};
+ghost use Rattle.ss_play.specs.Playing.{AreMarks};
 ghost use Rattle.ss_play.specs.Report.{lines_below, replica_line, replicas_text, report_text, sink_line, state_lines};
+ghost use Rattle.ss_play.specs.Report.{trace_lines};
 ghost use Rattle.ss_play.specs.Roles.{IsRoleOf, IsVertexOf};
 ghost use Rattle.ss_report.specs.ReadAgain.{whole_trace};
 ghost use Rattle.ss_report.specs.StateText.{journal_text};
 ghost use Rattle.ss_report.specs.TraceText.{IsActOf};
 ghost use Rattle.ss_state.specs.Numbers.{vertex};
+ghost use Rattle.ss_state.specs.Step.{MayAct};
 ghost use Rattle.ss_vault.specs.Readers.{HasRow};
 ghost use Rattle.ss_vault.specs.Sound.{Sound};
 ghost use Rattle.ss_vault.specs.Told.{durable_of, numbers_of, vault_told};
@@ -43,20 +46,37 @@ pub(crate) fn report_of<O: Outputs, D: Depot>(
         (state_of (plant_told O.told D.told plant.now))) }
 {
     let plan = plant.plan();
-    let _count = vertex_count(plan);
-    let roles = plan.job().roles();
-    let mut text = Vec::new(alloc);
-    put_trace(trace.pairs(), roles, &mut text)?;
+    let mut text = trace_of(alloc, plan, trace)?;
     put_vertices(plant, &mut text)?;
-    put_journal(plant.vault(), roles, &mut text)?;
+    put_journal(plant.vault(), plan.job().roles(), &mut text)?;
     Ok(text)
 }
 
-/// The mark of each vertex.
-pub(crate) fn marks_of<O: Outputs, D: Depot>(
+/// The lines of acts that were made on a job of this plan, each with what came of it.
+pub fn trace_of(alloc: Global, plan: &Plan, trace: &Trace) -> Result<Vec<u8>, Memory>
+    requires { All (MayAct (plan_numbers plan.now)) (acts_of trace.now) }
+    ensures { IfOk result (λ text. text.items ≡ trace_lines plan.now.job.roles trace.now) }
+{
+    let _count = vertex_count(plan);
+    let mut text = Vec::new(alloc);
+    put_trace(trace.pairs(), plan.job().roles(), &mut text)?;
+    Ok(text)
+}
+
+/// The mark of each vertex of a job.
+pub fn marks_of<O: Outputs, D: Depot>(
     alloc: Global,
     plant: &Plant<O, D>,
 ) -> Result<Vec<u64>, Memory>
+    requires { Joint (plant_told O.told D.told plant.now) }
+    ensures { IfOk result (λ marks. AreMarks (plant_told O.told D.told plant.now).plan
+        (state_of (plant_told O.told D.told plant.now)) marks.items) }
+{
+    list_marks(alloc, plant)
+}
+
+/// The marks, as the rows of the ledger have them.
+fn list_marks<O: Outputs, D: Depot>(alloc: Global, plant: &Plant<O, D>) -> Result<Vec<u64>, Memory>
     requires { Joint (plant_told O.told D.told plant.now) }
     ensures { IfOk result (λ marks. marks.items
         ≡ map (λ row. row.mark) (state_of (plant_told O.told D.told plant.now)).vault.ledger.rows) }

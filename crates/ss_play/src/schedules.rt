@@ -1,5 +1,5 @@
 ghost use Rattle.ss_play.specs.Roles.{PlansHaveRoles};
-ghost use Rattle.ss_play.specs.Schedules.{SchedulesMayApply};
+ghost use Rattle.ss_play.specs.Schedules.{FailuresCanFire, SchedulesMayApply};
 
 use ss_frames::plans_have_numbers;
 use ss_plan::vertices_by_number;
@@ -15,6 +15,13 @@ pub(crate) fn plans_have_roles()
 /// Every act of a schedule for a job can be made on it.
 pub fn schedules_may_apply()
     ensures { SchedulesMayApply }
+{
+    plans_have_roles();
+}
+
+/// Every failure that a file lists for a job can be made on it.
+pub fn failures_can_fire()
+    ensures { FailuresCanFire }
 {
     plans_have_roles();
 }

@@ -1,6 +1,6 @@
 use Rattle.std.proofs.Common.{◌≡◌, map, take}
 use Rattle.ss_engine.specs.Told.{plant_told, state_of}
-use Rattle.ss_play.proofs.reporting.marks_of.Given as goal
+use Rattle.ss_play.proofs.reporting.list_marks.Given as goal
 
 -- the marks of the vertices passed
 abbrev pub invariant-loop-v : goal.invariant-loop-v

@@ -1,0 +1,147 @@
+ghost use Rattle.std.specs.Prelude.{◌≡◌, All, IfErr, IfOk};
+ghost use Rattle.std.specs.Arc.{arc_value};
+ghost use Rattle.std.specs.List.{AllByRecursion};
+ghost use Rattle.ss_engine.specs.Joint.{Joint};
+ghost use Rattle.ss_engine.specs.Plays.{acts_of};
+ghost use Rattle.ss_engine.specs.Told.{plant_told, state_of};
+ghost use Rattle.ss_frames.specs.Plans.{plan_numbers};
+ghost use Rattle.ss_outside.specs.Depot.{no_contents};
+ghost use Rattle.ss_run.specs.Ending.{Ends};
+ghost use Rattle.ss_run.specs.Running.{EndsRunning, TellsRun, trace_wanted};
+ghost use Rattle.ss_serial.specs.Drives.{CanFire};
+ghost use Rattle.ss_serial.specs.Ends.{AllPut};
+ghost use Rattle.ss_state.specs.Rule.{IsTrigger};
+ghost use Rattle.ss_state.specs.Step.{MayAct};
+ghost use Rattle.ss_vault.specs.Calls.{HaveNoBytes};
+
+use crate::summary::summary_of;
+use ss_engine::{Plant, Trace};
+use ss_fail::Trigger;
+use ss_outside::{Depot, Outputs};
+use ss_plan::Plan;
+use ss_play::{PlayFault, marks_of, plays_are_told, trace_of};
+use ss_serial::finish;
+use ss_vault::plan_facts;
+use std::alloc::{AllocError, Global};
+use std::sync::Arc;
+
+/// What is told of a job that was brought to its end.
+#[derive(Drop)]
+pub struct Told {
+    /// A line for each act, where they are wanted.
+    pub trace: Vec<u8>,
+    /// A line for each sink, and the last line.
+    pub summary: Vec<u8>,
+    /// Of each vertex, below which element the list of a source isn't needed any more.
+    pub marks: Vec<u64>,
+}
+
+/// What a job that was run leaves.
+#[derive(Drop)]
+pub struct Ran<O, D> {
+    /// What is told, where every sink has put its whole stream.
+    pub answer: Result<Told, PlayFault>,
+    pub outputs: O,
+    pub depot: D,
+}
+
+/// Starts the job of a plan over a depot that holds nothing and outputs with no bytes, and brings it to its end,
+/// whatever failures are listed. `wants_trace` says whether its acts are to be told.
+pub fn run_job<O: Outputs, D: Depot>(
+    alloc: Global,
+    plan: Arc<Plan>,
+    triggers: &[Trigger],
+    wants_trace: bool,
+    outputs: O,
+    depot: D,
+) -> Ran<O, D>
+    requires depot { (D.told depot).contents ≡ no_contents }
+    requires outputs { HaveNoBytes (O.told outputs) }
+    requires triggers { AllByRecursion (IsTrigger (plan_numbers (arc_value plan))) triggers.now }
+    ensures { EndsRunning (arc_value plan) triggers.now wants_trace
+        (record { outputs = O.told outputs; depot = D.told depot }) result.answer
+        (record { outputs = O.told result.outputs; depot = D.told result.depot }) }
+{
+    plays_are_told();
+    // What every plan keeps.
+    plan_facts(&plan);
+    match Plant::start(alloc, plan, depot, outputs) {
+        Ok(mut plant) => {
+            let answer = run_on(alloc, &mut plant, triggers, wants_trace);
+            let (_plan, depot, outputs) = plant.into_parts();
+            Ran {
+                answer,
+                outputs,
+                depot,
+            }
+        }
+        Err(refused) => Ran {
+            answer: Err(PlayFault::of_vault(refused.fault)),
+            outputs: refused.outputs,
+            depot: refused.depot,
+        },
+    }
+}
+
+/// Brings a job to its end, and tells of it.
+fn run_on<O: Outputs, D: Depot>(
+    alloc: Global,
+    plant: &mut Plant<O, D>,
+    triggers: &[Trigger],
+    wants_trace: bool,
+) -> Result<Told, PlayFault>
+    requires joint { Joint (plant_told O.told D.told plant.old) }
+    requires triggers { CanFire (plant_told O.told D.told plant.old) triggers.now }
+    ensures joint { Joint (plant_told O.told D.told plant.new) }
+    ensures ends { Ends (plant_told O.told D.told plant.old) triggers.now wants_trace
+        result (plant_told O.told D.told plant.new) }
+{
+    let mut trace = Trace::new(alloc);
+    match finish(plant, triggers, &mut trace) {
+        Ok(()) => match tell(alloc, plant, &trace, wants_trace) {
+            Ok(told) => Ok(told),
+            Err(_) => Err(PlayFault::Memory),
+        },
+        Err(fault) => Err(PlayFault::of_engine(fault)),
+    }
+}
+
+/// Tells of a job at its end, on which these acts were made.
+fn tell<O: Outputs, D: Depot>(
+    alloc: Global,
+    plant: &Plant<O, D>,
+    trace: &Trace,
+    wants_trace: bool,
+) -> Result<Told, AllocError>
+    requires joint { Joint (plant_told O.told D.told plant.now) }
+    requires put { AllPut (plant_told O.told D.told plant.now) }
+    requires acts { All (MayAct (plan_numbers (plant_told O.told D.told plant.now).plan)) (acts_of trace.now) }
+    ensures { IfOk result (TellsRun (plant_told O.told D.told plant.now).plan wants_trace trace.now
+        (state_of (plant_told O.told D.told plant.now))) }
+{
+    let lines = wanted_trace(alloc, plant.plan(), trace, wants_trace)?;
+    let summary = summary_of(alloc, plant)?;
+    let marks = marks_of(alloc, plant)?;
+    Ok(Told {
+        trace: lines,
+        summary,
+        marks,
+    })
+}
+
+/// The lines of the acts, where they are wanted.
+fn wanted_trace(
+    alloc: Global,
+    plan: &Plan,
+    trace: &Trace,
+    wants_trace: bool,
+) -> Result<Vec<u8>, AllocError>
+    requires { All (MayAct (plan_numbers plan.now)) (acts_of trace.now) }
+    ensures { IfOk result (λ text. text.items ≡ trace_wanted wants_trace plan.now trace.now) }
+{
+    if wants_trace {
+        trace_of(alloc, plan, trace)
+    } else {
+        Ok(Vec::new(alloc))
+    }
+}
