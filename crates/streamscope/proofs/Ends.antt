@@ -1,17 +1,18 @@
 -- How a command ends, from how its steps end.
-use Rattle.std.proofs.Common.{◌≡◌, ℕ, ◌≤◌, ◌⊎◌, inl, inr, List, [], Some, None, refl, sym, ap, ◌∙◌, subst, arith}
-use Rattle.ss_fail.specs.declared.act.Act.{Act}
+use Rattle.std.proofs.Common.{◌≡◌, ℕ, ◌≤◌, ◌⊎◌, inl, inr, List, refl, sym, ap, ◌∙◌, subst, arith}
 use Rattle.ss_outside.specs.Depot.{DepotTold}
 use Rattle.ss_outside.specs.Faults.{Rose}
 use Rattle.ss_outside.specs.Told.{InputsTold, OutputsTold, FileTold, KeepsInputs, FailsAt, MayGive, changed_at, with_failure, missed_after}
-use Rattle.ss_play.specs.Playing.{IsCauseOf}
+use Rattle.ss_play.specs.Playing.{Devices, IsCauseOf, NoCountFell}
 use Rattle.ss_play.specs.declared.fault.PlayFault.{PlayFault}
 use Rattle.ss_play.specs.declared.fault.PlayFault.TheVariants as fault
 use Rattle.ss_plan.specs.Plan.{PlanText}
-use Rattle.streamscope.specs.Ends.{MayHave, AreTold, StopsAt, CannotRead, WantsMemory, StopsEarly, StopsLate, Stops, IsDone, TellsLine, IsRefused, IsExcused, IsPutFault, MayStop, DoesAll, StopsDoing, StopsPutting, EndsBy, Ends}
-use Rattle.streamscope.specs.Order.{Asked, Reading, Step, Value, Gives, Finds, Work, puts, acts, Order, first, order_of, last, ComesTo, ComesToStep}
-use Rattle.streamscope.specs.Playing.{Worked, StopsInActs, StopsInReport, devices, stop_told}
-use Rattle.streamscope.specs.Puts.{Put, Went, StopsInPuts}
+use Rattle.streamscope.specs.Ends.{MayHave, AreTold, StopsAt, WantsMemory, StopsEarly, StopsLate, Stops, IsDone, TellsLine, IsRefused, IsExcused, IsPutFault, MayStop, DoesAll, StopsDoing, EndsBy, Ends}
+use Rattle.streamscope.specs.Order.{Asked, Reading, Step, Value, Gives, Finds, Work, puts, starts, Task, acts, finish, Order, first, order_of, last, ComesTo, ComesToStep}
+use Rattle.ss_state.specs.State.{State}
+use Rattle.ss_state.specs.Step.{Made}
+use Rattle.streamscope.specs.Working.{IsDoneBy, IsStopped, Worked, devices, stop_told}
+use Rattle.streamscope.specs.Puts.{Put, StopsInPuts}
 use Rattle.streamscope.specs.Refusal.{Refusal}
 use Rattle.streamscope.specs.Seen.{Seen}
 use Rattle.streamscope.proofs.Puts.{rose-earlier, rose-later, Went-same}
@@ -61,13 +62,13 @@ abbrev pub at_inputs : InputsTold → Seen → Seen
 at_inputs inputs seen = record seen { inputs = inputs }
 
 -- the same moment of a job, whatever inputs are told beside it
-abbrev pub worked-earlier : (plan : PlanText) (made : List Act) (before : Seen) (read : InputsTold) → Worked plan made (at_inputs read before) → Worked plan made before
-worked-earlier plan made before read k = record { made = k.made; state = k.state; left = k.left; played = k.played }
+abbrev pub worked-earlier : (plan : PlanText) (task : Task) (before : Seen) (read : InputsTold) → Worked plan task (at_inputs read before) → Worked plan task before
+worked-earlier plan task before read k = record { made = k.made; state = k.state; left = k.left; done = k.done }
 
 pub does-earlier : (work : Work) (before after : Seen) (read : InputsTold) → KeepsInputs before.inputs read → DoesAll work (at_inputs read before) after → DoesAll work before after
 does-earlier (puts output) before after read h k = record { whole = k.whole; store = k.store; inputs = keeps-then before.inputs read after.inputs h k.inputs }
-does-earlier (acts plan made) before after read h k = record {
-  worked = worked-earlier plan made before read k.worked;
+does-earlier (starts plan task) before after read h k = record {
+  worked = worked-earlier plan task before read k.worked;
   report = k.report;
   store = k.store;
   read = k.read;
@@ -77,9 +78,9 @@ does-earlier (acts plan made) before after read h k = record {
 
 pub stops_doing-earlier : (work : Work) (before after : Seen) (read : InputsTold) (refusal : Refusal) → StopsDoing work (at_inputs read before) after refusal → StopsDoing work before after refusal
 stops_doing-earlier (puts output) before after read refusal k = record { cause = k.cause; store = k.store }
-stops_doing-earlier (acts plan made) before after read refusal (inl k) = inl (record { stop = k.stop; stops = k.stops; told = k.told })
-stops_doing-earlier (acts plan made) before after read refusal (inr k) =
-    inr (record { worked = worked-earlier plan made before read k.worked; cause = k.cause; store = k.store })
+stops_doing-earlier (starts plan task) before after read refusal (inl k) = inl (record { stop = k.stop; stops = k.stops; told = k.told })
+stops_doing-earlier (starts plan task) before after read refusal (inr k) =
+    inr (record { worked = worked-earlier plan task before read k.worked; cause = k.cause; store = k.store })
 
 pub done-earlier : (order : Order) (before after : Seen) (read : InputsTold) → KeepsInputs before.inputs read → IsDone order (at_inputs read before) after → IsDone order before after
 done-earlier order before after read h k = record {
@@ -199,6 +200,17 @@ refused_exactly one order before after status (inr (other, refused)) refusal fou
     of_stop (inr late) =
         absurd (refused_or_comes (AreTold before.inputs) (MayHave before.inputs) (told_agrees before.inputs) one order refusal late.work found late.comes)
 
+-- why a task stops, and that no count fell where it was done
+stop_cause : (plan : PlanText) (task : Task) (before : Devices) (stop : PlayFault) (left : Devices) → IsStopped plan task before stop left →
+    IsCauseOf plan before stop left
+stop_cause plan (acts list) before stop left stops = stops.cause
+stop_cause plan (finish triggers trace) before stop left stops = stops.stops.cause
+
+done_counts : (plan : PlanText) (task : Task) (before : Devices) (made : List Made) (state : State) (left : Devices) →
+    IsDoneBy plan task before made state left → NoCountFell before left
+done_counts plan (acts list) before made state left done = done.counts
+done_counts plan (finish triggers trace) before made state left done = done.played.counts
+
 -- what a stop that has a cause of its own comes to
 module _ (before stopped after : Seen) (status : ℕ) (refusal : Refusal) (told : status ≡ refusal.status) (line : TellsLine stopped.outputs after.outputs refusal.line)
     (inputs : after.inputs ≡ stopped.inputs) (store : after.depot ≡ stopped.depot) where
@@ -211,28 +223,29 @@ module _ (before stopped after : Seen) (status : ℕ) (refusal : Refusal) (told 
   ))
   in_puts work left all may h (inr (is, between)) = inl (inl (told ∙ ap (λ (r : Refusal). r.status) is))
 
-  in_acts : (plan : PlanText) (made : List Act) (stop : PlayFault) → IsCauseOf plan (devices before) stop (devices stopped) → refusal ≡ stop_told plan.job stop →
-      IsExcused before after status ⊎ MayStop (acts plan made) before after status
-  in_acts plan made fault.Store rose is = inr (inr (inl (inl (
+  in_task : (plan : PlanText) (task : Task) (stop : PlayFault) → IsCauseOf plan (devices before) stop (devices stopped) → refusal ≡ stop_told plan.job stop →
+      IsExcused before after status ⊎ MayStop (starts plan task) before after status
+  in_task plan task fault.Store rose is = inr (inr (inl (inl (
     told ∙ ap (λ (r : Refusal). r.status) is,
     subst (λ (d : DepotTold). Rose before.depot.faults d.faults) (sym store) rose,
   ))))
-  in_acts plan made fault.Output rose is = inr (inl (
+  in_task plan task fault.Output rose is = inr (inl (
     told ∙ ap (λ (r : Refusal). r.status) is,
     rose-later before.outputs.faults stopped.outputs.faults after.outputs.faults rose line.went.faults,
   ))
-  in_acts plan made (fault.Full v) long is = inr (inr (inr (told ∙ ap (λ (r : Refusal). r.status) is, (v, long))))
-  in_acts plan made fault.Memory u is = inl (inl (told ∙ ap (λ (r : Refusal). r.status) is))
-  in_acts plan made (fault.Damaged v n) (within, rose) is = inr (inr (inl (inr (
+  in_task plan task (fault.Full v) long is = inr (inr (inr (told ∙ ap (λ (r : Refusal). r.status) is, (v, long))))
+  in_task plan task fault.Memory u is = inl (inl (told ∙ ap (λ (r : Refusal). r.status) is))
+  in_task plan task (fault.Damaged v n) (within, rose) is = inr (inr (inl (inr (
     told ∙ ap (λ (r : Refusal). r.status) is,
     subst (λ (d : DepotTold). Rose before.depot.shorts d.shorts) (sym store) rose,
   ))))
 
   pub in_work : (work : Work) → StopsDoing work before stopped refusal → IsExcused before after status ⊎ MayStop work before after status
   in_work (puts output) stop = in_puts (puts output) before.outputs _ (λ h. h) (omega arith) stop.cause
-  in_work (acts plan made) (inl stop) = in_acts plan made stop.stop stop.stops.cause stop.told
-  in_work (acts plan made) (inr stop) =
-      in_puts (acts plan made) stop.worked.left.outputs _ (λ h. inl h) stop.worked.played.counts.output_faults stop.cause
+  in_work (starts plan task) (inl stop) =
+      in_task plan task stop.stop (stop_cause plan task (devices before) stop.stop (devices stopped) stop.stops) stop.told
+  in_work (starts plan task) (inr stop) =
+      in_puts (starts plan task) stop.worked.left.outputs _ (λ h. inl h) (done_counts plan task (devices before) stop.worked.made stop.worked.state stop.worked.left stop.worked.done).output_faults stop.cause
 
 pub done_exactly : OneReading → (order : Order) (before after : Seen) (status : ℕ) → EndsBy order before after status → (work : Work) →
     ComesTo (AreTold before.inputs) work order → (status ≡ 0) ⊎ IsExcused before after status ⊎ MayStop work before after status

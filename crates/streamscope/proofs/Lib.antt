@@ -1,10 +1,10 @@
 pub mod Actions
 pub mod Ends
 pub mod NameTexts
-pub mod Playing
 pub mod Puts
-pub mod Streams
 pub mod Steps
+pub mod Streams
 pub mod Vertices
 pub mod Ways
+pub mod Working
 pub mod Wrote

@@ -1,12 +1,11 @@
 -- The names of vertices are text.
-use Rattle.std.proofs.Common.{◌≡◌, ℕ, zero, suc, ◌<◌, Bool, true, false, List, [], ◌∷◌, ◌&&◌, Some, length, refl, sym, ◌∙◌, arith}
-use Rattle.std.specs.List.{slice_get, list_all}
-use Rattle.std.specs.Prelude.{slice_index, IsUtf8}
+use Rattle.std.proofs.Common.{◌≡◌, ℕ, zero, suc, ◌<◌, Bool, true, false, List, [], ◌∷◌, ◌&&◌, length, refl, arith}
+use Rattle.std.specs.List.{list_all}
+use Rattle.std.specs.Prelude.{slice_index}
 use Rattle.std.specs.Str.{IsAscii}
 use Rattle.std.proofs.lemmas.Bool.Decides.{nat_tests}
 use Rattle.std.proofs.lemmas.Option.{slice_get_within}
 use Rattle.std.proofs.lemmas.Str.{IsUtf8-from_ascii}
-use Rattle.ss_fail.specs.declared.role.Role.{Role}
 use Rattle.ss_job.specs.JobText.{JobText}
 use Rattle.ss_job.specs.LegalNames.{is_name_byte, is_vertex_name}
 use Rattle.ss_job.specs.Sound.{IsJob}

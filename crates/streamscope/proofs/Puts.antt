@@ -1,6 +1,6 @@
 -- What several puts come to.
-use Rattle.std.proofs.Common.{◌≡◌, ℕ, ◌+◌, ◌≤◌, ◌⊎◌, inl, inr, Bool, true, false, List, [], ◌∷◌, ◌++◌, length, take, Option, Some, None, if◌then◌else◌}
-use Rattle.std.proofs.Common.{refl, sym, ap, ◌∙◌, subst, append_assoc, arith, ◌||◌}
+use Rattle.std.proofs.Common.{◌≡◌, ℕ, ◌≤◌, Bool, true, false, List, [], ◌∷◌, ◌++◌, Option, Some, None, if◌then◌else◌}
+use Rattle.std.proofs.Common.{refl, sym, ap, ◌∙◌, append_assoc, arith, ◌||◌}
 use Rattle.std.specs.Option.{option_map}
 use Rattle.std.specs.Str.{bytes_eq}
 use Rattle.std.proofs.lemmas.List.{append-nil}
@@ -8,7 +8,7 @@ use Rattle.std.proofs.lemmas.List.Folds.{list_any-append}
 use Rattle.std.proofs.lemmas.Slice.Eq.{bytes_eq-Decides}
 use Rattle.ss_outside.specs.Faults.{Rose}
 use Rattle.ss_outside.specs.Told.{OutputsTold, Appends}
-use Rattle.streamscope.specs.Puts.{Put, put_of, first_of, bytes_to, is_put_to, Went, WentWhole}
+use Rattle.streamscope.specs.Puts.{Put, put_of, bytes_to, is_put_to, Went, WentWhole}
 
 abbrev pub behind : List ℕ → Option (List ℕ) → Option (List ℕ)
 behind more held = option_map (λ bytes. bytes ++ more) held

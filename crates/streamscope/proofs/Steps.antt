@@ -1,11 +1,11 @@
 -- What is put for the vertices of a job, one after the other.
-use Rattle.std.proofs.Common.{◌≡◌, ℕ, zero, suc, ◌+◌, ◌<◌, ◌⊎◌, inl, inr, List, [], ◌∷◌, ◌++◌, length, refl, sym, ap, ◌∙◌, subst, append_assoc, add-one, arith, false, codes}
+use Rattle.std.proofs.Common.{◌≡◌, ℕ, zero, suc, ◌+◌, ◌<◌, ◌⊎◌, inl, inr, List, [], ◌++◌, length, refl, sym, ap, ◌∙◌, subst, append_assoc, add-one, arith}
 use Rattle.std.proofs.lemmas.List.{append-nil}
 use Rattle.ss_job.specs.JobText.{JobText}
 use Rattle.ss_job.specs.Sound.{IsJob}
 use Rattle.ss_water.specs.declared.node.Node.{Node}
-use Rattle.streamscope.specs.Output.{shows_sink, summary_puts, summary_text, vertex_lines, line_of_vertex, puts_below, sink_puts, summary_lines, summary_line, Streams, sink_file, all_sink_puts}
-use Rattle.streamscope.specs.Puts.{Put, put_of}
+use Rattle.streamscope.specs.Output.{vertex_lines, line_of_vertex, puts_below, sink_puts, Streams}
+use Rattle.streamscope.specs.Puts.{Put}
 
 -- the count of a job's graph is that of its vertices
 pub count_is : (job : JobText) (graph : List Node) (n : ℕ) → IsJob job → graph ≡ job.graph → n ≡ length graph → n ≡ length job.vertices
@@ -16,9 +16,6 @@ vertex_lines-more job v = rw add-one refl
 
 pub puts_below-more : (job : JobText) (streams : Streams) (v : ℕ) → puts_below job streams (v + 1) ≡ puts_below job streams v ++ sink_puts job streams v
 puts_below-more job streams v = rw add-one refl
-
-pub summary_lines-more : (job : JobText) (streams : Streams) (v : ℕ) → summary_lines job streams (v + 1) ≡ summary_lines job streams v ++ summary_line job streams v
-summary_lines-more job streams v = rw add-one refl
 
 -- the last or an earlier one
 pub last_or_earlier : (v n : ℕ) → v < suc n → (v ≡ n) ⊎ (v < n)
@@ -35,8 +32,3 @@ puts_below-split job streams v (suc n) h = elim (last_or_earlier v n h) [
   | inr less ↦ let (rest, e) = puts_below-split job streams v n less in
       (rest ++ sink_puts job streams n, ap (λ (p : List Put). p ++ sink_puts job streams n) e ∙ append_assoc (puts_below job streams v ++ sink_puts job streams v) rest (sink_puts job streams n))
 ]
-
--- ---- the summary
-
-pub summary_puts-one : (job : JobText) (streams : Streams) → shows_sink job ≡ false → summary_puts job streams ≡ put_of (codes "-") (summary_text job streams) ∷ []
-summary_puts-one job streams h = rw h refl

@@ -1,5 +1,5 @@
 -- The lists of a job's sources, one behind the other, and the steps that read them.
-use Rattle.std.proofs.Common.{◌≡◌, ℕ, zero, suc, ◌+◌, ◌⊎◌, inl, inr, List, [], ◌∷◌, ◌++◌, length, take, Some, refl, sym, ap, ◌∙◌, subst, arith, add-zero, Vec, Global}
+use Rattle.std.proofs.Common.{◌≡◌, ℕ, zero, suc, ◌+◌, inl, inr, List, [], ◌∷◌, ◌++◌, length, take, Some, refl, sym, ap, ◌∙◌, subst, arith, add-zero, Vec, Global}
 use Rattle.std.proofs.Common.{◌<◌}
 use Rattle.std.proofs.lemmas.List.{map-append, length-take}
 use Rattle.std.proofs.Common.{cond}
@@ -12,7 +12,7 @@ use Rattle.ss_events.specs.declared.late.Late.{Late}
 use Rattle.ss_job.specs.JobText.{JobText, VertexText, source, inner, sink}
 use Rattle.ss_plan.specs.Plan.{lists_of, is_source}
 use Rattle.streamscope.specs.Order.{Reading, Step, Gives, source_file, Order, with_sources, ComesTo, ComesToStep, Work}
-use Rattle.streamscope.specs.Streams.{AreLists, IsSourceList, AddsList, AddsVertex}
+use Rattle.streamscope.specs.Streams.{AreLists, IsSourceList, AddsList}
 
 -- ---- one more vertex
 

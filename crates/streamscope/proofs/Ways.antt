@@ -1,5 +1,5 @@
 -- One order of work over one set of files goes one way.
-use Rattle.std.proofs.Common.{◌≡◌, ℕ, ◌⊎◌, inl, inr, List, [], Option, Some, None, Ok, Err, refl, sym, ap, ◌∙◌, subst}
+use Rattle.std.proofs.Common.{◌≡◌, ℕ, ◌⊎◌, inl, inr, List, Option, Ok, Err, refl, sym, ap, ◌∙◌, subst}
 use Rattle.std.proofs.Common.{◌<◌, zero, suc, arith, Result}
 use Rattle.std.specs.Prelude.{unwrap_or}
 use Rattle.ss_elem.specs.declared.element.Element.{Element}
@@ -13,13 +13,12 @@ use Rattle.ss_job.specs.declared.fault.JobFault.{JobFault}
 use Rattle.ss_job.specs.declared.fault.JobsFault.TheVariants.{At}
 use Rattle.ss_outside.specs.Faults.{Rose}
 use Rattle.ss_outside.specs.Told.{InputsTold}
-use Rattle.ss_fail.specs.Scripts.{acts_of}
-use Rattle.ss_fail.specs.declared.act.Act.{Act}
+use Rattle.ss_fail.specs.Scripts.{acts_of, triggers_of}
 use Rattle.ss_fail.specs.declared.fault.ScriptFault.{ScriptFault}
-use Rattle.ss_report.specs.declared.fault.Fault.TheVariants.{Usage, Job, Events, Inputs, Script}
+use Rattle.ss_report.specs.declared.fault.Fault.TheVariants.{Job, Script}
 use Rattle.ss_words.specs.Words.{CommandText}
 use Rattle.streamscope.specs.Ends.{MayHave, AreTold, StopsAt}
-use Rattle.streamscope.specs.Order.{Reading, Step, words, job_file, source_file, schedule_file, streams_fit, ListRefused, too_long, Value, Gives, Finds, Work, Order, first, last, ComesTo, ComesToStep}
+use Rattle.streamscope.specs.Order.{Reading, Step, words, job_file, source_file, schedule_file, failures_file, streams_fit, ListRefused, too_long, Value, Gives, Finds, Work, Order, first, last, ComesTo, ComesToStep}
 use Rattle.streamscope.specs.Refusal.{Refusal, refusal_of, shared}
 
 -- what the job reader says of bytes is one thing
@@ -49,6 +48,8 @@ same_value R S agree one (source_file job n file late) v w (x, read, has, short)
     let same : event_list y late ≡ event_list x late = ap (λ (b : List ℕ). event_list b late) (agree.bytes file x y read read_too) in cc
 same_value R S agree one (schedule_file job file) v w (x, read, has) (y, read_too, has_too) =
     let same : acts_of job.roles y ≡ acts_of job.roles x = ap (λ (b : List ℕ). acts_of job.roles b) (agree.bytes file x y read read_too) in cc
+same_value R S agree one (failures_file job file) v w (x, read, has) (y, read_too, has_too) =
+    let same : triggers_of job.roles y ≡ triggers_of job.roles x = ap (λ (b : List ℕ). triggers_of job.roles b) (agree.bytes file x y read read_too) in cc
 
 -- a step that gives a value finds nothing
 pub gives_or_finds : (R S : Reading) → Agree R S → OneReading → (step : Step) (v : Value step) (refusal : Refusal) → Gives R step v → Finds S step refusal → ⊥
@@ -62,6 +63,9 @@ gives_or_finds R S agree one (source_file job n file late) v refusal (x, read, h
     omega (arith, more, short)
 gives_or_finds R S agree one (schedule_file job file) v refusal (x, read, has) (y, fault, read_too, refused, is) =
     let same : acts_of job.roles y ≡ acts_of job.roles x = ap (λ (b : List ℕ). acts_of job.roles b) (agree.bytes file x y read read_too) in
+    absurd (cc (same, has, refused))
+gives_or_finds R S agree one (failures_file job file) v refusal (x, read, has) (y, fault, read_too, refused, is) =
+    let same : triggers_of job.roles y ≡ triggers_of job.roles x = ap (λ (b : List ℕ). triggers_of job.roles b) (agree.bytes file x y read read_too) in
     absurd (cc (same, has, refused))
 gives_or_finds R S agree one (streams_fit plan) v refusal fit (long, which, is) = fit long which.here
 
@@ -100,6 +104,10 @@ same_finding R S agree one (source_file job n file late) refusal other (x, read,
     one_list (Err fault) is is_too = is_too ∙ sym is
 same_finding R S agree one (schedule_file job file) refusal other (x, fault, read, refused, is) (y, fault_too, read_too, refused_too, is_too) =
     let same : acts_of job.roles y ≡ acts_of job.roles x = ap (λ (b : List ℕ). acts_of job.roles b) (agree.bytes file x y read read_too) in
+    let alike : fault ≡ fault_too = cc in
+    is_too ∙ sym (ap (λ (f : ScriptFault). refusal_of (Script (shared file) f)) alike) ∙ sym is
+same_finding R S agree one (failures_file job file) refusal other (x, fault, read, refused, is) (y, fault_too, read_too, refused_too, is_too) =
+    let same : triggers_of job.roles y ≡ triggers_of job.roles x = ap (λ (b : List ℕ). triggers_of job.roles b) (agree.bytes file x y read read_too) in
     let alike : fault ≡ fault_too = cc in
     is_too ∙ sym (ap (λ (f : ScriptFault). refusal_of (Script (shared file) f)) alike) ∙ sym is
 same_finding R S agree one (streams_fit plan) refusal other (u, which, is) (w, which_too, is_too) =

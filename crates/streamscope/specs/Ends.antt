@@ -1,5 +1,7 @@
 -- How a command ends.
-use Rattle.std.specs.Prelude.{◌≡◌, ◌⊎◌, ℕ, ◌≤◌, List, [], ◌∷◌, length, take, Some, codes}
+use Rattle.std.specs.Prelude.{◌≡◌, ◌⊎◌, ℕ, ◌≤◌, List, [], ◌∷◌, length, take, Option, None, Some, codes}
+use Rattle.ss_fail.specs.declared.trigger.Trigger.{Trigger}
+use Rattle.ss_job.specs.JobText.{JobText}
 use Rattle.ss_outside.specs.Faults.{Rose}
 use Rattle.ss_outside.specs.Told.{InputsTold, OutputsTold, HeldFile, held, MayGive, KeepsInputs, FailsAt}
 use Rattle.ss_plan.specs.Limit.{IsLongAmong}
@@ -7,10 +9,10 @@ use Rattle.ss_plan.specs.Plan.{PlanText}
 use Rattle.ss_plan.specs.Streams.{every}
 use Rattle.ss_report.specs.declared.fault.Fault.{Fault}
 use Rattle.ss_report.specs.declared.fault.Fault.TheVariants.{Usage, Inputs, Memory}
-use Rattle.streamscope.specs.Order.{Asked, Reading, Step, Value, Gives, Finds, file_read}
-use Rattle.streamscope.specs.Order.{Work, puts, acts, Order, order_of, ComesTo, ComesToStep}
+use Rattle.streamscope.specs.Order.{Asked, Reading, Step, Value, Gives, Finds, failures_file, file_read}
+use Rattle.streamscope.specs.Order.{Work, puts, starts, Order, order_of, ComesTo, ComesToStep}
 use Rattle.streamscope.specs.Output.{Output, puts_of}
-use Rattle.streamscope.specs.Playing.{MakesAll, StopsMaking}
+use Rattle.streamscope.specs.Working.{WorksAll, StopsWorking}
 use Rattle.streamscope.specs.Puts.{put_of, Went, WentWhole, StopsInPuts}
 use Rattle.streamscope.specs.Refusal.{Refusal, refusal_of, shared}
 use Rattle.streamscope.specs.Seen.{Seen}
@@ -51,6 +53,15 @@ Passes before after step value = Gives (MayHave before) step value × KeepsInput
 abbrev pub StopsOrWants : InputsTold → InputsTold → Step → Refusal → Type 0
 StopsOrWants before after step refusal = StopsAt before after refusal step ⊎ WantsMemory before after refusal
 
+-- the same of the failures of a run, where their file is given
+abbrev pub PassesFailures : InputsTold → InputsTold → JobText → Option (List ℕ) → List Trigger → Type 0
+PassesFailures before after job None triggers = (triggers ≡ []) × KeepsInputs before after
+PassesFailures before after job (Some file) triggers = Passes before after (failures_file job file) triggers
+
+abbrev pub StopsInFailures : InputsTold → InputsTold → JobText → Option (List ℕ) → Refusal → Type 0
+StopsInFailures before after job None refusal = ⊥
+StopsInFailures before after job (Some file) refusal = StopsOrWants before after (failures_file job file) refusal
+
 -- the work stops at a step, before anything is put
 pub record StopsEarly (order : Order) (before after : Seen) (refusal : Refusal) : Type 0 where
   pub cause : ComesToStep (MayHave before.inputs) (StopsAt before.inputs after.inputs refusal) order
@@ -74,12 +85,12 @@ pub record StopsPutting (output : Output) (before after : Seen) (refusal : Refus
 -- work is done
 abbrev pub DoesAll : Work → Seen → Seen → Type 0
 DoesAll (puts output) before after = PutsAll output before after
-DoesAll (acts plan made) before after = MakesAll plan made before after
+DoesAll (starts plan task) before after = WorksAll plan task before after
 
 -- work stops
 abbrev pub StopsDoing : Work → Seen → Seen → Refusal → Type 0
 StopsDoing (puts output) before after refusal = StopsPutting output before after refusal
-StopsDoing (acts plan made) before after refusal = StopsMaking plan made before after refusal
+StopsDoing (starts plan task) before after refusal = StopsWorking plan task before after refusal
 
 -- the steps are taken, and the work behind them stops; nothing is released
 pub record StopsLate (order : Order) (before after : Seen) (refusal : Refusal) : Type 0 where
@@ -139,7 +150,7 @@ IsTooLong plan status = (status ≡ 9) × ((v : ℕ) × IsLongAmong every plan v
 -- what may stop work, besides want of memory
 abbrev pub MayStop : Work → Seen → Seen → ℕ → Type 0
 MayStop (puts output) before after status = IsPutFault before after status
-MayStop (acts plan made) before after status =
+MayStop (starts plan task) before after status =
     IsPutFault before after status ⊎ IsStoreFault before after status ⊎ IsTooLong plan status
 
 abbrev pub EndsBy : Order → Seen → Seen → ℕ → Type 0

@@ -2,8 +2,8 @@ pub mod Computed
 pub mod Ends
 pub mod Order
 pub mod Output
-pub mod Playing
 pub mod Puts
 pub mod Refusal
 pub mod Seen
 pub mod Streams
+pub mod Working

@@ -1,13 +1,12 @@
 -- What a command puts where its work is done.
-use Rattle.std.specs.Prelude.{◌≡◌, ℕ, zero, suc, Vec, map, Bool, false, List, [], ◌∷◌, ◌++◌, length, Option, Some, None}
-use Rattle.std.specs.Prelude.{option_and_then, slice_get, slice_index, bytes_eq, codes, if◌then◌else◌, get_or}
+use Rattle.std.specs.Prelude.{ℕ, zero, suc, Bool, false, List, [], ◌∷◌, ◌++◌, length, Option, Some, None}
+use Rattle.std.specs.Prelude.{option_and_then, slice_get, bytes_eq, codes}
 use Rattle.std.specs.List.{list_any}
 use Rattle.std.specs.Option.{option_map_or}
-use Rattle.std.specs.declared.alloc.Global.{Global}
 use Rattle.ss_elem.specs.declared.element.Element.{Element}
 use Rattle.ss_job.specs.JobText.{VertexText, source, inner, sink, JobText, op_of}
 use Rattle.ss_report.specs.StateText.{state_text}
-use Rattle.ss_report.specs.declared.state_row.StateRow.TheVariants.{Vertex, Checked, Summary, Done}
+use Rattle.ss_report.specs.declared.state_row.StateRow.TheVariants.{Vertex, Checked}
 use Rattle.ss_water.specs.declared.node.Node.{Node}
 use Rattle.ss_job.specs.declared.op.Op.{Op}
 use Rattle.ss_meaning.specs.Meaning.{meaning}
@@ -20,8 +19,6 @@ pub data Output : Type 0 where
   job_lines : JobText → Output
   -- the lines of each sink of a plan
   sink_lines : PlanText → Output
-  -- the same, and then the summary
-  run_lines : PlanText → Output
 
 -- ---- check: the lines of the job
 
@@ -44,7 +41,7 @@ check_text job = vertex_lines job (length job.vertices) ++ state_text job.roles 
 abbrev pub check_puts : JobText → List Put
 check_puts job = put_of (codes "-") (check_text job) ∷ []
 
--- ---- the lines of each sink, and the summary
+-- ---- the lines of each sink
 
 -- the stream of each vertex; of a sink, the one that it takes
 abbrev pub Streams : Type 0
@@ -71,18 +68,6 @@ puts_below job streams (suc v) = puts_below job streams v ++ sink_puts job strea
 abbrev pub all_sink_puts : JobText → Streams → List Put
 all_sink_puts job streams = puts_below job streams (length job.vertices)
 
--- a sink's line of the summary
-abbrev pub summary_line : JobText → Streams → ℕ → List ℕ
-summary_line job streams v =
-    option_map_or (λ _. state_text job.roles (Summary v (length (streams v)))) (sink_file job v) []
-
-abbrev pub summary_lines : JobText → Streams → ℕ → List ℕ
-summary_lines job streams zero = []
-summary_lines job streams (suc v) = summary_lines job streams v ++ summary_line job streams v
-
-abbrev pub summary_text : JobText → Streams → List ℕ
-summary_text job streams = summary_lines job streams (length job.vertices) ++ state_text job.roles Done
-
 -- a sink writes to standard output
 abbrev pub writes_to_output : VertexText → Bool
 writes_to_output vertex = option_map_or (λ file. bytes_eq file (codes "-")) (file_of_sink vertex) false
@@ -94,13 +79,6 @@ shows job v = option_map_or (λ file. bytes_eq file (codes "-")) (sink_file job 
 abbrev pub shows_sink : JobText → Bool
 shows_sink job = list_any writes_to_output job.vertices
 
--- the summary, where no sink writes to standard output
-abbrev pub summary_puts : JobText → Streams → List Put
-summary_puts job streams = if shows_sink job then [] else put_of (codes "-") (summary_text job streams) ∷ []
-
-abbrev pub run_puts : JobText → Streams → List Put
-run_puts job streams = all_sink_puts job streams ++ summary_puts job streams
-
 -- ---- the puts of each output
 
 -- what a plan means: the stream of each vertex
@@ -111,4 +89,3 @@ meaning_of plan = meaning (vertices_of plan)
 abbrev pub puts_of : Output → List Put
 puts_of (job_lines job) = check_puts job
 puts_of (sink_lines plan) = all_sink_puts plan.job (meaning_of plan)
-puts_of (run_lines plan) = run_puts plan.job (meaning_of plan)

@@ -12,16 +12,18 @@ ghost use Rattle.std.specs.Vec.Iter.{into_iter_items};
 ghost use Rattle.std.specs.Process.{exit_status};
 
 mod check;
-mod closing;
 mod computed;
 mod outside;
 mod perform;
+mod plain;
+mod plans;
 mod play;
 mod read;
 mod run;
 mod sinks;
 mod sources;
 mod summary;
+mod telling;
 #[cfg(test)]
 mod tests;
 mod work;

@@ -26,7 +26,7 @@ use std::alloc::Global;
 /// | 5 | a file could not be read |
 /// | 6 | the store failed |
 /// | 7 | an output failed |
-/// | 8 | the schedule's file says no acts |
+/// | 8 | the schedule's file says no acts, or the file of failures lists none |
 /// | 9 | a stream has more elements than the job allows |
 /// | 10 | memory ran out |
 /// | 11 | the store gave bytes that aren't what was stored |

@@ -1,26 +1,24 @@
-ghost use Rattle.std.specs.Prelude.{◌≡◌, All, OnErr, OnOk, [], ◌∷◌, codes, get_or, length};
+ghost use Rattle.std.specs.Prelude.{◌≡◌, All};
 ghost use Rattle.std.specs.Arc.{arc_value};
 ghost use Rattle.ss_engine.specs.Applies.{MayApply};
 ghost use Rattle.ss_outside.specs.Depot.{no_contents};
-ghost use Rattle.ss_play.specs.Releasing.{ReleasesAll};
 ghost use Rattle.ss_vault.specs.Calls.{HaveNoBytes};
 ghost use Rattle.streamscope.specs.Ends.{EndsBy};
 ghost use Rattle.streamscope.specs.Order as order;
-ghost use Rattle.streamscope.specs.Order.{last, with_acts};
-ghost use Rattle.streamscope.specs.Playing.{stop_told};
-ghost use Rattle.streamscope.specs.Puts.{Wrote, put_of};
-ghost use Rattle.streamscope.specs.Refusal.{refusal_of};
+ghost use Rattle.streamscope.specs.Order.{last, starts, with_acts};
 ghost use Rattle.streamscope.specs.Seen.{seen};
 
 use crate::outside::{Done, Outside};
 use crate::perform::refused;
-use crate::read::{name_of, read_schedule_file, too_long};
+use crate::plans::shared_plan;
+use crate::read::read_schedule_file;
 use crate::sources::read_sources;
+use crate::telling::{fault_of, tell_acts};
 use ss_fail::Act;
 use ss_job::Job;
 use ss_outside::{Depot, Inputs, Outputs, PutFault};
-use ss_plan::{Plan, PlanFault};
-use ss_play::{PlayFault, Report, play_acts, release_all, schedules_may_apply};
+use ss_plan::Plan;
+use ss_play::{play_acts, schedules_may_apply};
 use ss_report::Fault;
 use ss_vault::plan_facts;
 use std::alloc::Global;
@@ -50,15 +48,7 @@ pub(crate) fn play<I: Inputs, O: Outputs, D: Depot>(
         Ok(acts) => acts,
         Err(fault) => return refused(alloc, outside, &fault),
     };
-    let plan = match Plan::of(job, lists) {
-        Ok(plan) => plan,
-        // Each list was measured when it was read.
-        Err(PlanFault::Full { .. }) => unreachable!(),
-        Err(PlanFault::Memory) => return refused(alloc, outside, &Fault::Memory),
-    };
-    // What every plan keeps.
-    let _ = plan.max_elements();
-    match Arc::new(alloc, plan) {
+    match shared_plan(alloc, job, lists) {
         Ok(plan) => make_acts(alloc, plan, acts.as_slice(), outside),
         Err(_) => refused(alloc, outside, &Fault::Memory),
     }
@@ -74,7 +64,7 @@ fn make_acts<I: Inputs, O: Outputs, D: Depot>(
     requires depot { (D.told outside.depot).contents ≡ no_contents }
     requires outputs { HaveNoBytes (O.told outside.outputs) }
     requires acts { All (MayApply (arc_value plan)) acts.now }
-    ensures { EndsBy (last (order.acts (arc_value plan) acts.now))
+    ensures { EndsBy (last (starts (arc_value plan) (order.acts acts.now)))
         (seen I.told O.told D.told outside) (seen I.told O.told D.told result.outside) result.status }
 {
     // That there is a mark for each vertex is told with the plan's numbers.
@@ -89,7 +79,7 @@ fn make_acts<I: Inputs, O: Outputs, D: Depot>(
         depot: played.depot,
     };
     match played.answer {
-        Ok(report) => match put_report(
+        Ok(report) => match tell_acts(
             &mut outside.inputs,
             &mut outside.outputs,
             plan.job(),
@@ -100,43 +90,5 @@ fn make_acts<I: Inputs, O: Outputs, D: Depot>(
             Err(PutFault::Memory) => refused(alloc, outside, &Fault::Memory),
         },
         Err(stop) => refused(alloc, outside, &fault_of(plan.job(), stop)),
-    }
-}
-
-/// Puts a report to standard output, and then releases what the job needs no more of its sources' files.
-fn put_report<I: Inputs, O: Outputs>(
-    inputs: &mut I,
-    outputs: &mut O,
-    job: &Job,
-    report: &Report,
-) -> Result<(), PutFault>
-    requires { length report.now.marks.items ≡ length job.now.vertices }
-    ensures wrote { Wrote (O.told outputs.old) (O.told outputs.new)
-        (put_of (codes "-") report.now.text.items ∷ []) result }
-    ensures released { OnOk result (ReleasesAll job.now (λ v. get_or report.now.marks.items v 0)
-        (I.told inputs.old) (I.told inputs.new)) }
-    ensures kept { OnErr result (I.told inputs.new ≡ I.told inputs.old) }
-{
-    match outputs.put("-", report.text.as_slice()) {
-        Ok(()) => (),
-        Err(fault) => return Err(fault),
-    }
-    release_all(inputs, job, report.marks.as_slice());
-    Ok(())
-}
-
-/// How what stopped a job is told.
-fn fault_of(job: &Job, stop: PlayFault) -> Fault<'_>
-    ensures { refusal_of result ≡ stop_told job.now stop }
-{
-    match stop {
-        PlayFault::Store => Fault::Store,
-        PlayFault::Output => Fault::Output,
-        PlayFault::Full { v } => too_long(job, v),
-        PlayFault::Memory => Fault::Memory,
-        PlayFault::Damaged { v, n } => Fault::Damaged {
-            name: name_of(job, v),
-            n,
-        },
     }
 }

@@ -1,15 +1,16 @@
-ghost use Rattle.std.specs.Prelude.{◌≡◌, ◌⊎◌, IfOk, IfErr};
+ghost use Rattle.std.specs.Prelude.{◌≡◌, ◌⊎◌, IfOk, IfErr, option_map};
 ghost use Rattle.ss_outside.specs.Told.{KeepsInputs};
 ghost use Rattle.ss_report.specs.StateText as state_text;
-ghost use Rattle.streamscope.specs.Ends.{MayHave, Passes, StopsOrWants, Unread, WantsMemory};
+ghost use Rattle.streamscope.specs.Ends.{MayHave, Passes, PassesFailures, StopsInFailures, StopsOrWants, Unread};
+ghost use Rattle.streamscope.specs.Ends.{WantsMemory};
 ghost use Rattle.streamscope.specs.Order as spec;
-ghost use Rattle.streamscope.specs.Order.{job_file, schedule_file, source_file};
+ghost use Rattle.streamscope.specs.Order.{failures_file, job_file, schedule_file, source_file};
 ghost use Rattle.streamscope.specs.Refusal.{refusal_of};
 ghost use Rattle.streamscope.specs.Streams.{AreTextNames, IsSourceList};
 
 use ss_elem::Element;
 use ss_events::{EventsFault, Late, read_events};
-use ss_fail::{Act, Role, ScriptsFault, read_schedule};
+use ss_fail::{Act, Role, ScriptsFault, Trigger, read_failures, read_schedule};
 use ss_job::{Job, JobsFault, read_job};
 use ss_outside::{InputFault, Inputs};
 use ss_report::Fault;
@@ -109,6 +110,49 @@ pub(crate) fn read_schedule_file<'a, I: Inputs>(
     let _ = job.graph();
     match read_schedule(alloc, bytes.as_slice(), job.roles()) {
         Ok(acts) => Ok(acts),
+        Err(ScriptsFault::At(fault)) => Err(Fault::Script { file, fault }),
+        Err(ScriptsFault::Memory) => Err(Fault::Memory),
+    }
+}
+
+/// The failures of a run: those that its file lists, or none where there is no file.
+pub(crate) fn read_failures_of<'a, I: Inputs>(
+    alloc: Global,
+    inputs: &mut I,
+    job: &Job,
+    file: Option<&'a str>,
+) -> Result<Vec<Trigger>, Fault<'a>>
+    ensures triggers { IfOk result (λ triggers. PassesFailures (I.told inputs.old) (I.told inputs.new)
+        job.now (option_map (λ file. file.now) file.entry) triggers.items) }
+    ensures fault { IfErr result (λ fault. StopsInFailures (I.told inputs.old) (I.told inputs.new)
+        job.now (option_map (λ file. file.now) file.entry) (refusal_of fault)) }
+{
+    match file {
+        Some(file) => read_failures_file(alloc, inputs, job, file),
+        None => Ok(Vec::new(alloc)),
+    }
+}
+
+/// The failures of a job that a file lists.
+fn read_failures_file<'a, I: Inputs>(
+    alloc: Global,
+    inputs: &mut I,
+    job: &Job,
+    file: &'a str,
+) -> Result<Vec<Trigger>, Fault<'a>>
+    ensures triggers { IfOk result (λ triggers. Passes (I.told inputs.old) (I.told inputs.new)
+        (failures_file job.now file.entry.now) triggers.items) }
+    ensures fault { IfErr result (λ fault. StopsOrWants (I.told inputs.old) (I.told inputs.new)
+        (failures_file job.now file.entry.now) (refusal_of fault)) }
+{
+    let bytes = match read_file(alloc, inputs, file) {
+        Ok(bytes) => bytes,
+        Err(fault) => return Err(fault),
+    };
+    // That a job has few roles is told with its graph.
+    let _ = job.graph();
+    match read_failures(alloc, bytes.as_slice(), job.roles()) {
+        Ok(triggers) => Ok(triggers),
         Err(ScriptsFault::At(fault)) => Err(Fault::Script { file, fault }),
         Err(ScriptsFault::Memory) => Err(Fault::Memory),
     }

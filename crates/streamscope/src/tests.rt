@@ -7,16 +7,22 @@ ghost use Rattle.ss_outside.specs.MemOutputs.{mem_outputs_told};
 ghost use Rattle.ss_vault.specs.Calls.{HaveNoBytes};
 
 mod checks;
+mod collections;
 mod devices;
 mod documents;
 mod ends;
 mod entries;
 mod events;
+mod failures;
 mod joins;
 mod made;
 mod operators;
+mod passes;
+mod played;
 mod plays;
+mod recovery;
 mod runs;
+mod traces;
 mod windows;
 mod words;
 
@@ -62,9 +68,9 @@ const WHOLE: Left<'static> = Left {
 };
 
 /// Each name under which a test looks for bytes.
-const NAMES: [&str; 13] = [
+const NAMES: [&str; 15] = [
     "-", "!", "out.csv", "o.csv", "x.csv", "y.csv", "z.csv", "in.csv", "s.csv", "one.csv",
-    "two.csv", "job.toml", "s.txt",
+    "two.csv", "job.toml", "s.txt", "f.txt", "t.txt",
 ];
 
 /// A command: its words, its files, the reads that are to fail, and the puts that are to fail, each with how

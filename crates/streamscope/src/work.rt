@@ -8,9 +8,9 @@ ghost use Rattle.streamscope.specs.Output.{job_lines};
 ghost use Rattle.streamscope.specs.Seen.{seen};
 
 use crate::check::check;
-use crate::closing::Closing;
 use crate::outside::{Done, Outside};
 use crate::perform::refused;
+use crate::plain::plain;
 use crate::play::play;
 use crate::read::read_job_file;
 use crate::run::run;
@@ -37,8 +37,8 @@ pub(crate) fn work<I: Inputs, O: Outputs, D: Depot>(
     };
     match command {
         Command::Check { .. } => show(alloc, &job, outside),
-        Command::Plain { .. } => run(alloc, Closing::Nothing, job, outside),
-        Command::Run { .. } => run(alloc, Closing::Summary, job, outside),
+        Command::Plain { .. } => plain(alloc, job, outside),
+        Command::Run { run: options, .. } => run(alloc, job, options, outside),
         Command::Play { schedule, .. } => play(alloc, job, schedule, outside),
     }
 }

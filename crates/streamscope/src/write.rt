@@ -1,43 +1,16 @@
 ghost use Rattle.std.specs.Prelude.{◌<◌, length};
 ghost use Rattle.ss_plan.specs.Plan.{lists_of};
 ghost use Rattle.streamscope.specs.Output.{all_sink_puts, sink_puts};
-ghost use Rattle.streamscope.specs.Computed.{list_at, puts_with};
+ghost use Rattle.streamscope.specs.Computed.{list_at};
 ghost use Rattle.streamscope.specs.Puts.{Wrote, lines_to};
 
-use crate::closing::Closing;
 use crate::sinks::{list_at, sink_file};
-use crate::summary::write_summary;
 use ss_elem::{Element, LineBuf, line};
 use ss_job::Job;
 use ss_outside::{Outputs, PutFault};
-use std::alloc::Global;
 
-/// Puts the lines of each sink of a job to its file, in order, and then what closes them. `streams` has what each sink
-/// takes.
-pub(crate) fn write_output<O: Outputs>(
-    alloc: Global,
-    outputs: &mut O,
-    closing: Closing,
-    job: &Job,
-    streams: &[Vec<Element>],
-) -> Result<(), PutFault>
-    ensures { Wrote (O.told outputs.old) (O.told outputs.new)
-        (puts_with closing job.now (list_at (lists_of streams.now))) result }
-{
-    match write_sinks(outputs, job, streams) {
-        Ok(()) => match closing {
-            Closing::Nothing => Ok(()),
-            Closing::Summary => match write_summary(alloc, outputs, job, streams) {
-                Ok(()) => Ok(()),
-                Err(fault) => Err(fault),
-            },
-        },
-        Err(fault) => Err(fault),
-    }
-}
-
-/// Puts the lines of each sink to its file, in order.
-fn write_sinks<O: Outputs>(
+/// Puts the lines of each sink of a job to its file, in order. `streams` has what each sink takes.
+pub(crate) fn write_sinks<O: Outputs>(
     outputs: &mut O,
     job: &Job,
     streams: &[Vec<Element>],

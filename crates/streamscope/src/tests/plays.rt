@@ -3,9 +3,10 @@ ghost use Rattle.ss_outside.specs.Depot.{no_contents};
 ghost use Rattle.ss_outside.specs.DepotCalls.{gives_bytes};
 ghost use Rattle.ss_outside.specs.MemDepot.{mem_depot_told};
 
-use super::{
-    Command, Left, check_done, check_left, done, done_over, inputs_of, no_outputs, outputs_of,
+use super::played::{
+    EVENTS, JOB, PLAY, check_example, check_over, check_played, report_behind, schedule_of,
 };
+use super::{Command, Left, check_done, check_left, done, inputs_of, no_outputs};
 use ss_job::{Job, read_job};
 use ss_outside::{DepotCall, MemDepot, MemInputs};
 use ss_play::release_all;
@@ -13,15 +14,7 @@ use std::alloc::Global;
 use std::process::Abort;
 use std::test::Fail;
 
-/// A source, a select with two replicas over it, and a sink.
-const JOB: &[u8] = b"vertex = [
-    { name = 's', op = 'source', file = 's.csv' },
-    { name = 'w', op = 'select', inputs = ['s'], replicas = 2 },
-    { name = 'o', op = 'sink', inputs = ['w'], file = 'o.csv' },
-]
-";
-
-/// The same, with a sink that writes to standard output.
+/// A source, a select with two replicas over it, and a sink that writes to standard output.
 const SHOWN: &[u8] = b"vertex = [
     { name = 's', op = 'source', file = 's.csv' },
     { name = 'w', op = 'select', inputs = ['s'], replicas = 2 },
@@ -29,7 +22,7 @@ const SHOWN: &[u8] = b"vertex = [
 ]
 ";
 
-/// The same, with too few elements to a stream for a window of that source.
+/// A source, a window over it, and a sink, with too few elements to a stream for that window.
 const NARROW: &[u8] = b"job = { max_elements = 4 }
 vertex = [
     { name = 's', op = 'source', file = 's.csv' },
@@ -37,10 +30,6 @@ vertex = [
     { name = 'o', op = 'sink', inputs = ['w'], file = 'o.csv' },
 ]
 ";
-
-const EVENTS: &[u8] = b"event,1,2,k,1,0\nevent,2,3,k,2,0\nevent,3,4,k,3,0\n";
-
-const PLAY: [&str; 4] = ["play", "job.toml", "--schedule", "s.txt"];
 
 /// What words leave that are no command.
 const NOT_A_COMMAND: Left<'static> = Left {
@@ -56,23 +45,6 @@ const NOTHING_DONE: Left<'static> = Left {
     status: 0,
     texts: &[("-", STARTED)],
 };
-
-/// Plays a schedule on a job, and compares what it leaves.
-fn check_played(
-    rt: &impl Abort,
-    alloc: Global,
-    job: &[u8],
-    schedule: &str,
-    left: Left<'_>,
-) -> Result<(), Fail> {
-    let mut inputs = MemInputs::new(alloc);
-    inputs.add("job.toml", job)?;
-    inputs.add("s.csv", EVENTS)?;
-    inputs.add("s.txt", schedule.as_bytes())?;
-    let done = done(alloc, &PLAY, inputs, no_outputs(alloc))?;
-    check_done(rt, schedule, &done, left);
-    Ok(())
-}
 
 /// Two replicas that race.
 const RACE: &str = "read s 0\nwrite s 0\nread w 0\nread w 1\nwrite w 0\nwrite w 1\n";
@@ -319,32 +291,6 @@ journal 10 since 8
 
 const LINES: &str = "event,1,2,k,1,0\nevent,2,3,k,2,0\nevent,3,4,k,3,0\nend\n";
 
-/// The schedule of acts that stand beside their outcomes.
-fn schedule_of(alloc: Global, acts: &[(&str, &str)]) -> Result<String, Fail> {
-    let mut schedule = String::new(alloc);
-    for (act, _) in acts {
-        schedule.push_str(act)?;
-        schedule.push_str("\n")?;
-    }
-    Ok(schedule)
-}
-
-/// Its trace behind this text, and the state that it leaves.
-fn report_behind(
-    alloc: Global,
-    text: &str,
-    acts: &[(&str, &str)],
-    state: &str,
-) -> Result<String, Fail> {
-    let mut report = String::from_str(alloc, text)?;
-    for (act, outcome) in acts {
-        let line = format!(in alloc; "{act}: {outcome}\n")?;
-        report.push_str(line.as_str())?;
-    }
-    report.push_str(state)?;
-    Ok(report)
-}
-
 #[test]
 fn every_act_has_every_outcome(rt: HostRuntime) -> Result<(), Fail> {
     let alloc = rt.alloc();
@@ -387,9 +333,9 @@ fn a_bad_schedule_is_refused(rt: HostRuntime) -> Result<(), Fail> {
     let cases: [(&str, &str); 8] = [
         ("read s 0\nfly s\n", "line 2: bad word"),
         ("read w 2\n", "line 1: no such replica"),
-        ("collect s\n", "line 1: bad word"),
-        ("trim w\n", "line 1: bad word"),
-        ("pass\n", "line 1: bad word"),
+        ("collect o\n", "line 1: unknown name"),
+        ("trim\n", "line 1: bad number of words"),
+        ("pass s\n", "line 1: bad number of words"),
         ("# first\n\nflush s 65\n", "line 3: bad number"),
         ("take s\n", "line 1: unknown name"),
         ("lose s 0\n", "line 1: bad number of words"),
@@ -530,31 +476,8 @@ fn a_schedule_has_at_most_200_bytes_in_its_name(rt: HostRuntime) -> Result<(), F
     )
 }
 
-/// Plays a schedule over a depot, and compares what it leaves.
-fn check_over(
-    rt: &impl Abort,
-    alloc: Global,
-    schedule: &str,
-    puts: &[(u64, u64)],
-    depot: MemDepot,
-    left: Left<'_>,
-) -> Result<(), Fail>
-    requires { (mem_depot_told depot).contents ≡ no_contents }
-{
-    let files: [(&str, &[u8]); 3] = [
-        ("job.toml", JOB),
-        ("s.csv", EVENTS),
-        ("s.txt", schedule.as_bytes()),
-    ];
-    let inputs = inputs_of(alloc, &files, &[])?;
-    let outputs = outputs_of(alloc, puts)?;
-    let done = done_over(alloc, &PLAY, inputs, outputs, depot)?;
-    check_done(rt, schedule, &done, left);
-    Ok(())
-}
-
 /// A depot that holds nothing, and fails in one call.
-fn failing(alloc: Global, which: DepotCall, call: u64) -> Result<MemDepot, Fail>
+pub(super) fn failing(alloc: Global, which: DepotCall, call: u64) -> Result<MemDepot, Fail>
     ensures { IfOk result (λ depot. (mem_depot_told depot).contents ≡ no_contents) }
 {
     let mut depot = MemDepot::new(alloc);
@@ -563,7 +486,7 @@ fn failing(alloc: Global, which: DepotCall, call: u64) -> Result<MemDepot, Fail>
 }
 
 /// A depot that holds nothing, and gives one answer short.
-fn damaged(alloc: Global, which: DepotCall, call: u64) -> Result<MemDepot, Fail>
+pub(super) fn damaged(alloc: Global, which: DepotCall, call: u64) -> Result<MemDepot, Fail>
     requires { gives_bytes which ≡ true }
     ensures { IfOk result (λ depot. (mem_depot_told depot).contents ≡ no_contents) }
 {
@@ -661,25 +584,7 @@ fn each_put_fails_in_turn(rt: HostRuntime) -> Result<(), Fail> {
     Ok(())
 }
 
-/// The job of `examples/play`.
-const EXAMPLE: &[u8] = b"[[vertex]]
-name = 'rides'
-op = 'source'
-file = 's.csv'
-[[vertex]]
-name = 'short'
-op = 'select'
-inputs = ['rides']
-where = 'end - start < 20'
-replicas = 2
-[[vertex]]
-name = 'out'
-op = 'sink'
-inputs = ['short']
-file = '-'
-";
-
-/// Its schedule, with what comes of each act.
+/// The schedule of `examples/play`, with what comes of each act.
 const EXAMPLE_ACTS: [(&str, &str); 26] = [
     ("read rides 0", "got 0 0"),
     ("write rides 0", "stored 0"),
@@ -720,33 +625,12 @@ journal 4 since 4
 
 #[test]
 fn the_example_is_as_it_is_told(rt: HostRuntime) -> Result<(), Fail> {
-    let alloc = rt.alloc();
-    let schedule = schedule_of(alloc, &EXAMPLE_ACTS)?;
-    let shown = report_behind(alloc, "event,1,5,k,1,0\n", &EXAMPLE_ACTS, EXAMPLE_STATE)?;
-    let files: [(&str, &[u8]); 3] = [
-        ("job.toml", EXAMPLE),
-        (
-            "s.csv",
-            b"event,1,5,k,1,0\nevent,2,40,k,2,0\nevent,6,9,k,3,0\n",
-        ),
-        ("s.txt", schedule.as_bytes()),
-    ];
-    let command = Command {
-        words: &PLAY,
-        files: &files,
-        reads: &[],
-        puts: &[],
-    };
-    let texts = [("-", shown.as_str())];
-    check_left(
+    check_example(
         &rt,
-        alloc,
-        "the example",
-        command,
-        Left {
-            status: 0,
-            texts: &texts,
-        },
+        rt.alloc(),
+        "event,1,5,k,1,0\n",
+        &EXAMPLE_ACTS,
+        EXAMPLE_STATE,
     )
 }
 

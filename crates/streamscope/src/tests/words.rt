@@ -13,7 +13,7 @@ const REFUSED: Left<'static> = Left {
     texts: &[("!", USAGE)],
 };
 
-const WORDS: [&[&str]; 31] = [
+const WORDS: [&[&str]; 41] = [
     &[],
     &[""],
     &["run"],
@@ -47,9 +47,19 @@ const WORDS: [&[&str]; 31] = [
     &["plain", "--schedule=s.txt", "job.toml"],
     &["gen", "0"],
     &["run", "job.toml", "--workers", "9"],
-    &["run", "job.toml", "--workers=2"],
-    &["--trace", "t", "run", "job.toml"],
-    &["run", "--failures", "f", "job.toml"],
+    &["run", "job.toml", "--workers", "0"],
+    &["run", "job.toml", "--workers", "+1"],
+    &["run", "job.toml", "--workers", " 1"],
+    &["run", "job.toml", "--workers="],
+    &["run", "job.toml", "--workers=2", "--workers=2"],
+    &["run", "job.toml", "--workers=2", "--trace=t.txt"],
+    &["run", "job.toml", "--trace=t.txt", "--trace=t.txt"],
+    &["run", "job.toml", "--failures=f.txt", "--failures=f.txt"],
+    &["run", "job.toml", "--failures="],
+    &["run", "job.toml", "--trace", "-x"],
+    &["play", "job.toml", "--schedule=s.txt", "--failures=f.txt"],
+    &["play", "job.toml", "--schedule=s.txt", "--trace=t.txt"],
+    &["plain", "job.toml", "--workers", "1"],
     &["check", "job.toml", "--schedule", "s"],
     &["run", "job.toml", "--", "--trace"],
 ];

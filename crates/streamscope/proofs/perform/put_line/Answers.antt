@@ -1,4 +1,4 @@
-use Rattle.std.proofs.Common.{◌≡◌, [], ◌∷◌, ℕ, List, length, codes, sym, subst, inr, inl, arith}
+use Rattle.std.proofs.Common.{[], ◌∷◌, ℕ, List, length, codes, sym, subst, inr, inl, arith}
 use Rattle.std.proofs.Math.Seq.{take-length}
 use Rattle.streamscope.specs.Puts.{Went, put_of}
 use Rattle.streamscope.proofs.Puts.{Went-one}

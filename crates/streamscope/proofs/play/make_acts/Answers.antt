@@ -1,7 +1,6 @@
-use Rattle.std.proofs.Common.{◌≡◌, ◌∙◌, ℕ, List, [], ◌∷◌, Result, Ok, Err, inl, inr, refl, sym, ap, subst, length, codes, get_or}
+use Rattle.std.proofs.Common.{◌≡◌, ◌∙◌, List, Result, Ok, Err, inl, inr, refl, sym, ap, subst, length, get_or}
 use Rattle.std.specs.Arc.{arc_value}
 use Rattle.ss_fail.specs.declared.act.Act.{Act}
-use Rattle.ss_frames.specs.Plans.{plan_numbers}
 use Rattle.ss_job.specs.JobText.{JobText}
 use Rattle.ss_plan.specs.Plan.{PlanText}
 use Rattle.ss_play.specs.Playing.{Devices, EndsPlaying}
@@ -10,19 +9,15 @@ use Rattle.ss_play.specs.declared.fault.PlayFault.{PlayFault}
 use Rattle.ss_play.specs.declared.playing.Report.{Report}
 use Rattle.ss_report.specs.declared.fault.Fault.TheVariants.{Output, Memory}
 use Rattle.ss_vault.specs.Facts.{PlanFacts}
-use Rattle.streamscope.specs.Order.{last, acts}
-use Rattle.streamscope.specs.Playing.{devices, stop_told}
+use Rattle.streamscope.specs.Order.{last, acts, starts}
+use Rattle.streamscope.specs.Working.{devices, stop_told}
 use Rattle.streamscope.specs.Puts.{PutFailed, StoppedBetween, WentWhole}
 use Rattle.streamscope.specs.Refusal.{refusal_of}
 use Rattle.streamscope.specs.Seen.{Seen, seen}
 use Rattle.streamscope.proofs.Actions.{wanting}
 use Rattle.streamscope.proofs.Ends.{keeps-same, refused_at}
-use Rattle.streamscope.proofs.Playing.{acts_done, acts_stop, marks_count, report_stops, text_puts}
+use Rattle.streamscope.proofs.Working.{acts_done, acts_report_stops, acts_told, counted, marks_count, task_stops}
 use Rattle.streamscope.proofs.play.make_acts.Goals as goal
-
--- a plan has as many vertices as numbers of vertices
-counted : (plan : PlanText) → PlanFacts plan → length (plan_numbers plan).vertices ≡ length plan.job.vertices
-counted plan facts = facts.count ∙ sym facts.is.job.vertices
 
 -- what a job answers of a shared plan
 shared_ends : (plan shared : PlanText) (before left : Devices) (answer is : Result Report PlayFault) (list : List Act) → shared ≡ plan → answer ≡ is →
@@ -35,12 +30,12 @@ pub returns-in_default : goal.returns-in_default
 returns-in_default g c =
     let before = seen g.I.Inputs.told g.O.Outputs.told g.D.Depot.told c.args.outside in
     let after = seen g.I.Inputs.told g.O.Outputs.told g.D.Depot.told c.refused.result.outside in
-    let order = last (acts (arc_value c.args.plan) c.args.acts.now) in
+    let order = last (starts (arc_value c.args.plan) (acts c.args.acts.now)) in
     refused_at order before before after c.refused.result.status (refusal_of Memory) (wanting order before before.inputs (keeps-same before.inputs))
     c.refused.ensures.status c.refused.ensures.line c.refused.ensures.inputs c.refused.ensures.depot
 
-pub put_report-requires : goal.put_report-requires
-put_report-requires g c =
+pub tell_acts-requires : goal.tell_acts-requires
+tell_acts-requires g c =
     let plan = arc_value c.args.plan in
     let before = seen g.I.Inputs.told g.O.Outputs.told g.D.Depot.told c.args.outside in
     let left : Devices = record { outputs = g.O.Outputs.told c.play_acts-played.result.outputs; depot = g.D.Depot.told c.play_acts-played.result.depot } in
@@ -52,18 +47,18 @@ put_report-requires g c =
     (marks_count plan c.args.acts.now (devices before) left report ends
     ∙ counted plan (subst PlanFacts c.deref.ensures c.plan_facts.ensures) ∙ sym (ap (λ (j : JobText). length j.vertices) job))
 
-pub returns-in-Ok-put_report : goal.returns-in-Ok-put_report
-returns-in-Ok-put_report g c =
+pub returns-in-Ok-tell_acts : goal.returns-in-Ok-tell_acts
+returns-in-Ok-tell_acts g c =
     let plan = arc_value c.args.plan in
     let before = seen g.I.Inputs.told g.O.Outputs.told g.D.Depot.told c.args.outside in
     let left : Devices = record { outputs = g.O.Outputs.told c.play_acts-played.result.outputs; depot = g.D.Depot.told c.play_acts-played.result.depot } in
-    let after : Seen = record { inputs = g.I.Inputs.told c.put_report.new.inputs; outputs = g.O.Outputs.told c.put_report.new.outputs; depot = left.depot } in
+    let after : Seen = record { inputs = g.I.Inputs.told c.tell_acts.new.inputs; outputs = g.O.Outputs.told c.tell_acts.new.outputs; depot = left.depot } in
     let report = c.in-Ok-answer.report in
     let ends = shared_ends plan (arc_value c.in-Ok.shared) (devices before) left c.play_acts-played.result.answer (Ok report) c.args.acts.now
     c.in-Ok.ensures c.in-Ok-answer.is c.play_acts-played.ensures in
     let job : c.job.result.now ≡ plan.job = c.job.ensures.job ∙ ap (λ (p : PlanText). p.job) c.deref-in-Ok-answer.ensures in
-    let whole : WentWhole left.outputs after.outputs (text_puts report) = rw c.in-Ok-answer.is at c.in-Ok-put_report.ensures.wrote in
-    let released : ReleasesAll c.job.result.now (λ v. get_or report.marks.items v 0) before.inputs after.inputs = rw c.in-Ok-answer.is at c.in-Ok-put_report.ensures.released in
+    let whole : WentWhole left.outputs after.outputs (acts_told report) = rw c.in-Ok-answer.is at c.in-Ok-tell_acts.ensures.wrote in
+    let released : ReleasesAll c.job.result.now (λ v. get_or report.marks.items v 0) before.inputs after.inputs = rw c.in-Ok-answer.is at c.in-Ok-tell_acts.ensures.released in
     inl (
       refl,
       acts_done plan c.args.acts.now before after left report (counted plan (subst PlanFacts c.deref.ensures c.plan_facts.ensures)) ends whole refl
@@ -75,15 +70,15 @@ returns-in-Err-Failed g c =
     let plan = arc_value c.args.plan in
     let before = seen g.I.Inputs.told g.O.Outputs.told g.D.Depot.told c.args.outside in
     let left : Devices = record { outputs = g.O.Outputs.told c.play_acts-played.result.outputs; depot = g.D.Depot.told c.play_acts-played.result.depot } in
-    let stopped : Seen = record { inputs = g.I.Inputs.told c.put_report.new.inputs; outputs = g.O.Outputs.told c.put_report.new.outputs; depot = left.depot } in
+    let stopped : Seen = record { inputs = g.I.Inputs.told c.tell_acts.new.inputs; outputs = g.O.Outputs.told c.tell_acts.new.outputs; depot = left.depot } in
     let report = c.in-Ok-answer.report in
     let ends = shared_ends plan (arc_value c.in-Ok.shared) (devices before) left c.play_acts-played.result.answer (Ok report) c.args.acts.now
     c.in-Ok.ensures c.in-Ok-answer.is c.play_acts-played.ensures in
-    let failed : PutFailed left.outputs stopped.outputs (text_puts report) = rw (c.in-Err-Failed.field-0-is, c.in-Ok-answer.is) at c.in-Err-Failed.ensures.wrote in
+    let failed : PutFailed left.outputs stopped.outputs (acts_told report) = rw (c.in-Err-Failed.field-0-is, c.in-Ok-answer.is) at c.in-Err-Failed.ensures.wrote in
     let refused = c.refused-in-Err-Failed in
     let after = seen g.I.Inputs.told g.O.Outputs.told g.D.Depot.told refused.result.outside in
-    refused_at (last (acts plan c.args.acts.now)) before stopped after refused.result.status (refusal_of Output)
-    (report_stops plan c.args.acts.now before stopped left report (refusal_of Output) ends (inl (refl, failed)) c.in-Err-Failed.ensures.kept refl)
+    refused_at (last (starts plan (acts c.args.acts.now))) before stopped after refused.result.status (refusal_of Output)
+    (acts_report_stops plan c.args.acts.now before stopped left report (refusal_of Output) ends (inl (refl, failed)) c.in-Err-Failed.ensures.kept refl)
     refused.ensures.status refused.ensures.line refused.ensures.inputs refused.ensures.depot
 
 pub returns-in-Ok-answer : goal.returns-in-Ok-answer
@@ -91,15 +86,15 @@ returns-in-Ok-answer g c =
     let plan = arc_value c.args.plan in
     let before = seen g.I.Inputs.told g.O.Outputs.told g.D.Depot.told c.args.outside in
     let left : Devices = record { outputs = g.O.Outputs.told c.play_acts-played.result.outputs; depot = g.D.Depot.told c.play_acts-played.result.depot } in
-    let stopped : Seen = record { inputs = g.I.Inputs.told c.put_report.new.inputs; outputs = g.O.Outputs.told c.put_report.new.outputs; depot = left.depot } in
+    let stopped : Seen = record { inputs = g.I.Inputs.told c.tell_acts.new.inputs; outputs = g.O.Outputs.told c.tell_acts.new.outputs; depot = left.depot } in
     let report = c.in-Ok-answer.report in
     let ends = shared_ends plan (arc_value c.in-Ok.shared) (devices before) left c.play_acts-played.result.answer (Ok report) c.args.acts.now
     c.in-Ok.ensures c.in-Ok-answer.is c.play_acts-played.ensures in
-    let between : StoppedBetween left.outputs stopped.outputs (text_puts report) = rw (c.in-Err-Memory.field-0-is, c.in-Ok-answer.is) at c.in-Err-Memory.ensures.wrote in
+    let between : StoppedBetween left.outputs stopped.outputs (acts_told report) = rw (c.in-Err-Memory.field-0-is, c.in-Ok-answer.is) at c.in-Err-Memory.ensures.wrote in
     let refused = c.refused-in-Err-Memory in
     let after = seen g.I.Inputs.told g.O.Outputs.told g.D.Depot.told refused.result.outside in
-    refused_at (last (acts plan c.args.acts.now)) before stopped after refused.result.status (refusal_of Memory)
-    (report_stops plan c.args.acts.now before stopped left report (refusal_of Memory) ends (inr (refl, between)) c.in-Err-Memory.ensures.kept refl)
+    refused_at (last (starts plan (acts c.args.acts.now))) before stopped after refused.result.status (refusal_of Memory)
+    (acts_report_stops plan c.args.acts.now before stopped left report (refusal_of Memory) ends (inr (refl, between)) c.in-Err-Memory.ensures.kept refl)
     refused.ensures.status refused.ensures.line refused.ensures.inputs refused.ensures.depot
 
 pub returns : goal.returns
@@ -115,6 +110,6 @@ returns g c =
     let told : refusal_of c.fault_of.result ≡ stop_told c.job-in-Err.result.now stop = c.fault_of.ensures in
     let refused = c.refused-in-Err in
     let after = seen g.I.Inputs.told g.O.Outputs.told g.D.Depot.told refused.result.outside in
-    refused_at (last (acts plan c.args.acts.now)) before stopped after refused.result.status (refusal_of c.fault_of.result)
-    (acts_stop plan c.args.acts.now before stopped stop (refusal_of c.fault_of.result) stops (told ∙ ap (λ (j : JobText). stop_told j stop) job) refl)
+    refused_at (last (starts plan (acts c.args.acts.now))) before stopped after refused.result.status (refusal_of c.fault_of.result)
+    (task_stops plan (acts c.args.acts.now) before stopped stop (refusal_of c.fault_of.result) stops (told ∙ ap (λ (j : JobText). stop_told j stop) job) refl)
     refused.ensures.status refused.ensures.line refused.ensures.inputs refused.ensures.depot

@@ -1,13 +1,13 @@
-use Rattle.std.proofs.Common.{◌≡◌, ◌∙◌, List, subst}
+use Rattle.std.proofs.Common.{List, subst}
 use Rattle.std.specs.Arc.{arc_value}
 use Rattle.ss_fail.specs.declared.act.Act.{Act}
 use Rattle.ss_plan.specs.Plan.{PlanText, lists_of}
 use Rattle.ss_report.specs.declared.fault.Fault.TheVariants.{Memory}
 use Rattle.streamscope.specs.Ends.{EndsBy, MayHave}
-use Rattle.streamscope.specs.Order.{acts, last, with_acts}
+use Rattle.streamscope.specs.Order.{acts, last, starts, with_acts}
 use Rattle.streamscope.specs.Refusal.{refusal_of}
 use Rattle.streamscope.specs.Seen.{seen}
-use Rattle.streamscope.proofs.Actions.{acts_early, acts_end, are_source_lists, behind_lists, plan_with, sources_stop, wanting}
+use Rattle.streamscope.proofs.Actions.{acts_early, acts_end, are_source_lists, behind_lists, sources_stop, wanting}
 use Rattle.streamscope.proofs.Ends.{at_inputs, keeps-then, refused_at}
 use Rattle.streamscope.proofs.play.play.Goals as goal
 
@@ -38,28 +38,13 @@ returns-in-Err-read_schedule_file g c =
     (acts_early job schedule before read later (lists_of c.in-Ok.lists.items) refusal are kept c.in-Err-read_schedule_file.ensures.fault)
     refused.ensures.status refused.ensures.line refused.ensures.inputs refused.ensures.depot
 
-pub of-requires : goal.of-requires
-of-requires g c =
+pub shared_plan-requires-clause-lists : goal.shared_plan-requires-clause-lists
+shared_plan-requires-clause-lists g c =
     let (are, kept) = c.in-Ok.ensures.lists in
     are_source_lists (MayHave (g.I.Inputs.told c.args.outside.inputs)) c.args.job (lists_of c.in-Ok.lists.items) are c.in-Ok.ensures.each
 
-pub returns-in-Err-Memory : goal.returns-in-Err-Memory
-returns-in-Err-Memory g c =
-    let before = seen g.I.Inputs.told g.O.Outputs.told g.D.Depot.told c.args.outside in
-    let job = c.args.job in
-    let schedule = c.args.schedule.now in
-    let read = g.I.Inputs.told c.read_sources.new.inputs in
-    let later = g.I.Inputs.told c.read_schedule_file.new.inputs in
-    let (are, kept) = c.in-Ok.ensures.lists in
-    let (gives, keeps) = c.in-Ok-read_schedule_file.ensures.acts in
-    let refused = c.refused-in-Err-Memory in
-    let after = seen g.I.Inputs.told g.O.Outputs.told g.D.Depot.told refused.result.outside in
-    refused_at (with_acts job schedule) before (at_inputs later before) after refused.result.status (refusal_of Memory)
-    (wanting (with_acts job schedule) before later (keeps-then before.inputs read later kept keeps))
-    refused.ensures.status refused.ensures.line refused.ensures.inputs refused.ensures.depot
-
-pub returns-in-Ok-new : goal.returns-in-Ok-new
-returns-in-Ok-new g c =
+pub returns-in-Ok-shared_plan : goal.returns-in-Ok-shared_plan
+returns-in-Ok-shared_plan g c =
     let before = seen g.I.Inputs.told g.O.Outputs.told g.D.Depot.told c.args.outside in
     let job = c.args.job in
     let schedule = c.args.schedule.now in
@@ -71,9 +56,8 @@ returns-in-Ok-new g c =
     let made = c.in-Ok-read_schedule_file.acts.items in
     let after = seen g.I.Inputs.told g.O.Outputs.told g.D.Depot.told c.make_acts.result.outside in
     let status = c.make_acts.result.status in
-    let same : arc_value c.in-Ok-new.plan ≡ plan_with job lists = c.in-Ok-new.ensures.ok ∙ c.in-Ok-of.ensures.plan in
-    let ends = subst (λ (p : PlanText). EndsBy (last (acts p made)) (at_inputs later before) after status) same
-    (subst (λ (l : List Act). EndsBy (last (acts (arc_value c.in-Ok-new.plan) l)) (at_inputs later before) after status) c.as_slice.ensures.value c.make_acts.ensures) in
+    let ends = subst (λ (p : PlanText). EndsBy (last (starts p (acts made))) (at_inputs later before) after status) c.in-Ok-shared_plan.ensures.plan
+    (subst (λ (l : List Act). EndsBy (last (starts (arc_value c.in-Ok-shared_plan.plan) (acts l))) (at_inputs later before) after status) c.as_slice.ensures.value c.make_acts.ensures) in
     acts_end job schedule before after read later lists made status are kept keeps gives ends
 
 pub returns : goal.returns
@@ -85,7 +69,7 @@ returns g c =
     let later = g.I.Inputs.told c.read_schedule_file.new.inputs in
     let (are, kept) = c.in-Ok.ensures.lists in
     let (gives, keeps) = c.in-Ok-read_schedule_file.ensures.acts in
-    let refused = c.refused-in-Err-new in
+    let refused = c.refused-in-Err-shared_plan in
     let after = seen g.I.Inputs.told g.O.Outputs.told g.D.Depot.told refused.result.outside in
     refused_at (with_acts job schedule) before (at_inputs later before) after refused.result.status (refusal_of Memory)
     (wanting (with_acts job schedule) before later (keeps-then before.inputs read later kept keeps))

@@ -1,7 +1,7 @@
 use Rattle.std.proofs.Common.{ℕ, List, sym, subst}
 use Rattle.ss_words.specs.Answers.{command_text}
 use Rattle.ss_words.specs.Words.{job_of}
-use Rattle.ss_words.specs.declared.words.Command.{Command}
+use Rattle.ss_words.specs.declared.command.Command.{Command}
 use Rattle.streamscope.specs.Ends.{EndsBy, MayHave, StopsOrWants}
 use Rattle.streamscope.specs.Order.{Gives, job_file, order_with, order_for}
 use Rattle.streamscope.specs.Refusal.{refusal_of}
@@ -37,23 +37,23 @@ pub returns-in-Plain : goal.returns-in-Plain
 returns-in-Plain g c =
     let command = command_text c.args.command.now in
     let before = seen g.I.Inputs.told g.O.Outputs.told g.D.Depot.told c.args.outside in
-    let after = seen g.I.Inputs.told g.O.Outputs.told g.D.Depot.told c.run.result.outside in
+    let after = seen g.I.Inputs.told g.O.Outputs.told g.D.Depot.told c.plain.result.outside in
     let read = g.I.Inputs.told c.read_job_file.new.inputs in
     let (gives, kept) = c.in-Ok.ensures.job in
-    work_ends command c.in-Ok.job before after read c.run.result.status
+    work_ends command c.in-Ok.job before after read c.plain.result.status
     (subst (λ (file : List ℕ). Gives (MayHave before.inputs) (job_file file) c.in-Ok.job) c.job.ensures gives) kept
-    (subst (λ (x : Command). EndsBy (order_with (command_text x) c.in-Ok.job) (at_inputs read before) after c.run.result.status) (sym c.in-Plain.is) c.run.ensures)
+    (subst (λ (x : Command). EndsBy (order_with (command_text x) c.in-Ok.job) (at_inputs read before) after c.plain.result.status) (sym c.in-Plain.is) c.plain.ensures)
 
 pub returns-in-Run : goal.returns-in-Run
 returns-in-Run g c =
     let command = command_text c.args.command.now in
     let before = seen g.I.Inputs.told g.O.Outputs.told g.D.Depot.told c.args.outside in
-    let after = seen g.I.Inputs.told g.O.Outputs.told g.D.Depot.told c.run-in-Run.result.outside in
+    let after = seen g.I.Inputs.told g.O.Outputs.told g.D.Depot.told c.run.result.outside in
     let read = g.I.Inputs.told c.read_job_file.new.inputs in
     let (gives, kept) = c.in-Ok.ensures.job in
-    work_ends command c.in-Ok.job before after read c.run-in-Run.result.status
+    work_ends command c.in-Ok.job before after read c.run.result.status
     (subst (λ (file : List ℕ). Gives (MayHave before.inputs) (job_file file) c.in-Ok.job) c.job.ensures gives) kept
-    (subst (λ (x : Command). EndsBy (order_with (command_text x) c.in-Ok.job) (at_inputs read before) after c.run-in-Run.result.status) (sym c.in-Run.is) c.run-in-Run.ensures)
+    (subst (λ (x : Command). EndsBy (order_with (command_text x) c.in-Ok.job) (at_inputs read before) after c.run.result.status) (sym c.in-Run.is) c.run.ensures)
 
 pub returns-in-Play : goal.returns-in-Play
 returns-in-Play g c =

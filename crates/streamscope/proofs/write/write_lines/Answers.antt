@@ -1,4 +1,4 @@
-use Rattle.std.proofs.Common.{◌≡◌, ◌+◌, ◌++◌, ◌∷◌, [], ◌∙◌, ℕ, List, Err, Ok, drop, take, subst, sym}
+use Rattle.std.proofs.Common.{◌≡◌, ◌+◌, ◌∷◌, [], ◌∙◌, ℕ, List, Err, Ok, drop, take, subst, sym}
 use Rattle.ss_elem.specs.Line.{line_of}
 use Rattle.ss_outside.specs.Told.{Puts}
 use Rattle.streamscope.specs.Puts.{WentWhole, lines_to, put_of}

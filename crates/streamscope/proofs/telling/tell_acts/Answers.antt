@@ -1,7 +1,7 @@
 use Rattle.std.proofs.Common.{ℕ, List, Err, codes, subst}
 use Rattle.ss_outside.specs.Told.{Puts}
 use Rattle.streamscope.proofs.Wrote.{wrote-one}
-use Rattle.streamscope.proofs.play.put_report.Goals as goal
+use Rattle.streamscope.proofs.telling.tell_acts.Goals as goal
 
 pub returns-in-Err-clause-wrote : goal.returns-in-Err-clause-wrote
 returns-in-Err-clause-wrote g c =
