@@ -1,6 +1,9 @@
-use crate::harness::{SUMS_OF_20, Settings, elements_of, lines_of, new_window, take};
+use crate::harness::{
+    SUMS_OF_20, Settings, elements_of, has_whole_hops, lines_of, new_window, take,
+};
 use ss_elem::{Bound, Out};
 use ss_expr::{Agg, Field};
+use ss_window::Window;
 use std::alloc::Global;
 use std::test::Fail;
 
@@ -29,6 +32,33 @@ fn panes_are_the_ends_above_low_with_a_row(rt: HostRuntime) -> Result<(), Fail> 
         take(&rt, &mut window, Bound::ZERO, open, &mut out)?;
         assert!(rt; window.panes() == panes && window.held() == held, "{text}");
     }
+    Ok(())
+}
+
+#[test]
+fn a_loaded_window_has_the_panes_of_its_image(rt: HostRuntime) -> Result<(), Fail> {
+    let text = "event,5,9,k,3,0\nevent,6,7,q,1,0\nevent,15,16,q,1,0\ncti,10\ncti,20\n";
+    let elements = elements_of(rt.alloc(), text)?;
+    assert!(rt; elements.len() == 6);
+    let mut window = new_window(&rt, rt.alloc(), SUMS_OF_20);
+    let mut out = Out::new(rt.alloc());
+    let low = take(&rt, &mut window, Bound::ZERO, &elements[..4], &mut out)?;
+    let mut image = Vec::new(rt.alloc());
+    assert!(rt; window.held() < 1 << 25);
+    window.image(&mut image)?;
+    let s = SUMS_OF_20;
+    assert!(rt; has_whole_hops(s));
+    let mut again = Window::of_image(rt.alloc(), s.size, s.hop, s.agg, s.of, low, &image)?;
+    // At 20 k and q, at 30 q.
+    assert!(rt; again.panes() == 2 && again.held() == 3);
+    let mut rest = Out::new(rt.alloc());
+    let low = take(&rt, &mut again, low, &elements[4..5], &mut rest)?;
+    assert!(rt; again.panes() == 1 && again.held() == 1);
+    take(&rt, &mut again, low, &elements[5..], &mut rest)?;
+    assert!(rt; again.panes() == 0 && again.held() == 0);
+    let lines = lines_of(rt.alloc(), &rest)?;
+    let given = "event,20,30,k,3,1\nevent,20,30,q,2,2\nevent,30,40,q,1,1\n";
+    assert!(rt; lines.as_slice() == given.as_bytes());
     Ok(())
 }
 

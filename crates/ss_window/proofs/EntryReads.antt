@@ -87,7 +87,7 @@ all_behind : (d e : WindowEntry) (es : List WindowEntry) → IsBehind d.end d.ke
 all_behind d e [] h k = tt
 all_behind d e (f ∷ fs) h k = (behind_both d e f h k.0, all_behind d e fs h k.1)
 
-behind : (d e : WindowEntry) → is_before e.end e.key d ≡ true → IsBehind d.end d.key e
+pub behind : (d e : WindowEntry) → is_before e.end e.key d ≡ true → IsBehind d.end d.key e
 behind d e h = by_case (or_cases (nat_lt d.end e.end) (d.end == e.end && nat_lt d.key e.key) h)
   where
     by_case : (nat_lt d.end e.end ≡ true) ⊎ ((d.end == e.end && nat_lt d.key e.key) ≡ true) → IsBehind d.end d.key e

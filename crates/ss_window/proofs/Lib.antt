@@ -1,5 +1,10 @@
 pub mod Joins
-pub mod TotalPuts
+pub mod Places
+pub mod PaneTotals
+pub mod EndChanges
+pub mod Restores
+pub mod PaneLists
+pub mod Pushes
 pub mod Walks
 pub mod Rises
 pub mod Arrivals
@@ -9,4 +14,3 @@ pub mod EntryReads
 pub mod Spellings
 pub mod ReadAgain
 pub mod StateImages
-pub mod TotalLists

@@ -1,10 +1,11 @@
 -- Entries in order are cut at a bound in one place.
-use Rattle.std.proofs.Common.{◌≡◌, ℕ, zero, suc, ◌+◌, ◌<◌, Bool, true, false, cond, nat_lt, nat_le, List, [], ◌∷◌, length, take, drop, filter, refl, sym, ap, subst, ◌∙◌, arith, leb-true, leb-false, lt-ltb, le-ltb}
-use Rattle.std.proofs.lemmas.Bool.{lt-leb}
+use Rattle.std.proofs.Common.{◌≡◌, ℕ, zero, suc, ◌+◌, ◌<◌, Bool, true, false, cond, nat_lt, nat_le, List, [], ◌∷◌, length, take, drop, filter, refl, sym, ap, subst, ◌∙◌, arith, leb-true, leb-false, lt-ltb, le-ltb, ◌≤◌, ◌++◌}
+use Rattle.std.proofs.lemmas.Bool.{le-leb, lt-leb}
 use Rattle.std.proofs.lemmas.List.Folds.{length-prefix_len}
 use Rattle.std.specs.List.{AllByRecursion, prefix_len}
 use Rattle.ss_meaning.specs.Entries.{WindowEntry}
 use Rattle.ss_meaning.specs.EntryLists.{IsBehind, AreInOrder}
+use Rattle.ss_window.specs.Held.{EntryTotal, entry_of, entries_at}
 use Rattle.ss_window.specs.States.{begins_reached, reached, left}
 
 one_more : (n : ℕ) → 1 + n ≡ suc n
@@ -69,3 +70,17 @@ in_order-drop (suc n) (e ∷ es) h = in_order-drop n es h.1
 
 pub left_in_order : (low : ℕ) (es : List WindowEntry) → AreInOrder es → AreInOrder (left low es)
 left_in_order low es h = subst AreInOrder (cut low es h).1 (in_order-drop (prefix_len (is_closed low) es) es h)
+
+-- the entries of one end at once
+
+pub pane_reached : (low end : ℕ) (ts : List (ℕ × EntryTotal)) (es : List WindowEntry) → end ≤ low
+    → (reached low (entries_at end ts ++ es) ≡ entries_at end ts ++ reached low es) × (left low (entries_at end ts ++ es) ≡ left low es)
+pane_reached low end [] es h = (refl, refl)
+pane_reached low end (t ∷ ts) es h =
+    let first = first_reached low (entry_of end t.0 t.1) (entries_at end ts ++ es) (le-leb end low h) in
+    let rest = pane_reached low end ts es h in
+    (first.0 ∙ ap (λ (xs : List WindowEntry). entry_of end t.0 t.1 ∷ xs) rest.0, first.1 ∙ rest.1)
+
+pub order_behind : (es fs : List WindowEntry) → AreInOrder (es ++ fs) → AreInOrder fs
+order_behind [] fs h = h
+order_behind (e ∷ es) fs h = order_behind es fs h.1

@@ -1,13 +1,10 @@
 -- What stays known from one end of a row to the next.
-use Rattle.std.proofs.Common.{◌≡◌, ℕ, suc, ◌+◌, ◌-◌, ◌*◌, ◌<◌, ◌≤◌, Bool, true, false, cond, nat_lt, ℤ, List, [], ◌∷◌, filter, All, Result, Ok, Err, sym, ap, subst, ◌∙◌, arith, lt-ltb, le-ltb}
+use Rattle.std.proofs.Common.{◌≡◌, ℕ, suc, ◌+◌, ◌-◌, ◌*◌, ◌<◌, ◌≤◌, Bool, true, false, cond, nat_lt, ℤ, List, [], ◌∷◌, filter, All, ap, ◌∙◌, arith, lt-ltb, le-ltb}
 use Rattle.std.proofs.lemmas.List.Elements.{All-from_recursion, recursion_from_All, All-weaker}
 use Rattle.std.specs.List.{AllByRecursion}
-use Rattle.std.specs.Prelude.{OnOk, OnErr}
 use Rattle.ss_meaning.specs.Entries.{WindowEntry}
-use Rattle.ss_meaning.specs.EntryLists.{AreInOrder, is_before, is_of, single_entry, grown_entry, put_value, put_values}
-use Rattle.ss_meaning.specs.EntryLaws.{PutKeepsOrder}
+use Rattle.ss_meaning.specs.EntryLists.{is_before, is_of, single_entry, grown_entry, put_value, put_values}
 use Rattle.ss_meaning.specs.Window.{multiples}
-use Rattle.ss_window.specs.Held.{EntryTotal, entries_in}
 
 -- each entry counts at most one row more
 few_each : (limit : ℕ) (join : ℤ → ℤ → ℤ) (key : ℕ) (value : ℤ) (w : ℕ) (es : List WindowEntry) → 0 < limit → AllByRecursion (λ (e : WindowEntry). e.rows < limit) es
@@ -58,14 +55,3 @@ skipped_end hop number low to join key value es h k =
     ap (λ ws. put_values join key value (filter (nat_lt low) ws) es) (multiples-more hop number to h)
     ∙ ap (λ b. put_values join key value (cond b (hop * number ∷ filter (nat_lt low) (multiples hop (number + 1) (to - (number + 1))))
     (filter (nat_lt low) (multiples hop (number + 1) (to - (number + 1))))) es) (le-ltb low (hop * number) k)
-
--- order is kept by all puts where it is kept by one
-pub puts_keep_order : PutKeepsOrder → (join : ℤ → ℤ → ℤ) (key : ℕ) (value : ℤ) (ws : List ℕ) (es : List WindowEntry) → AreInOrder es → AreInOrder (put_values join key value ws es)
-puts_keep_order keeps join key value [] es h = h
-puts_keep_order keeps join key value (w ∷ ws) es h = puts_keep_order keeps join key value ws (put_value join key value w es) (keeps join key value w es h)
-
--- order is kept where all is put, and where nothing is
-pub order_after : PutKeepsOrder → {T E : Type 0} (r : Result T E) (join : ℤ → ℤ → ℤ) (key : ℕ) (value : ℤ) (ws : List ℕ) (old new : List ((ℕ × ℕ) × EntryTotal))
-    → AreInOrder (entries_in old) → OnOk r (entries_in new ≡ put_values join key value ws (entries_in old)) → OnErr r (new ≡ old) → AreInOrder (entries_in new)
-order_after keeps (Ok x) join key value ws old new h puts same = subst AreInOrder (sym puts) (puts_keep_order keeps join key value ws (entries_in old) h)
-order_after keeps (Err e) join key value ws old new h puts same = subst (λ es. AreInOrder (entries_in es)) (sym same) h

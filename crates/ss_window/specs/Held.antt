@@ -1,12 +1,13 @@
 -- What the program holds of the ends and keys of a window.
-use Rattle.std.specs.Prelude.{ℕ, ◌+◌, ◌-◌, ◌*◌, ◌^◌, ◌<◌, nat_lt, ℤ, pos, neg_ℤ, ◌+ℤ◌, ◌≤ℤ◌}
-use Rattle.std.specs.Prelude.{List, map, filter, Option, Some, None}
+use Rattle.std.specs.Prelude.{◌≡◌, ℕ, ◌+◌, ◌-◌, ◌*◌, ◌^◌, ◌<◌, nat_lt, ℤ, pos, neg_ℤ, ◌+ℤ◌, ◌≤ℤ◌}
+use Rattle.std.specs.Prelude.{List, length, map, filter, Option, Some, None}
 use Rattle.std.specs.Int.{int_min, int_max}
-use Rattle.std.specs.Ordering.{nat_cmp, ordering_then}
-use Rattle.std.specs.declared.cmp.Ordering.{Ordering}
+use Rattle.std.specs.List.{AllByRecursion, flat_map}
+use Rattle.std.specs.BTreeMap.{BTreeMap}
 use Rattle.ss_expr.specs.declared.stream_operator.Agg.{Agg}
 use Rattle.ss_expr.specs.declared.stream_operator.Agg.TheVariants.{Sum, Least, Greatest}
 use Rattle.ss_meaning.specs.Entries.{WindowEntry}
+use Rattle.ss_meaning.specs.EntryLists.{AreInOrder}
 use Rattle.ss_meaning.specs.Window.{multiples}
 
 -- the aggregate of the values of one end and one key, and how many rows had one
@@ -31,17 +32,28 @@ abbrev pub grown_total : (ℤ → ℤ → ℤ) → ℤ → Option EntryTotal →
 grown_total join value None = record { value = value; rows = 1 }
 grown_total join value (Some total) = record { value = join total.value value; rows = total.rows + 1 }
 
--- the order in which totals are held: that of their ends, and at one end that of their keys
-abbrev pub place_cmp : ℕ × ℕ → ℕ × ℕ → Ordering
-place_cmp x y = ordering_then (nat_cmp x.0 y.0) (nat_cmp x.1 y.1)
-
 -- the entry of an end and a key with this total
 abbrev pub entry_of : ℕ → ℕ → EntryTotal → WindowEntry
 entry_of end key total = record { end = end; key = key; value = total.value; rows = total.rows }
 
--- the entries that totals at their ends and keys are
-abbrev pub entries_in : List ((ℕ × ℕ) × EntryTotal) → List WindowEntry
-entries_in totals = map (λ t. entry_of t.0.0 t.0.1 t.1) totals
+-- the entries that totals at one end are, each at its key
+abbrev pub entries_at : ℕ → List (ℕ × EntryTotal) → List WindowEntry
+entries_at end totals = map (λ t. entry_of end t.0 t.1) totals
+
+-- the entries that panes at their ends are
+abbrev pub entries_in : List (ℕ × BTreeMap ℕ EntryTotal) → List WindowEntry
+entries_in panes = flat_map (λ p. entries_at p.0 p.1.entries) panes
+
+-- a pane has a total
+abbrev pub HasTotal : ℕ × BTreeMap ℕ EntryTotal → Type 0
+HasTotal pane = 0 < length pane.1.entries
+
+-- no pane is empty, their entries stand in order, and so many are held
+pub record AreHeld (panes : List (ℕ × BTreeMap ℕ EntryTotal)) (held : ℕ) : Type 0 where
+  pub full : AllByRecursion HasTotal panes
+  pub order : AreInOrder (entries_in panes)
+  pub counted : held ≡ length (entries_in panes)
+  pub few : held < 2 ^ 63
 
 -- the multiples of hop above a bound, from the one with a number up to and without the one with another
 abbrev pub ends_left : ℕ → ℕ → ℕ → ℕ → List ℕ

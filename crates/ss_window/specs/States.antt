@@ -13,7 +13,7 @@ use Rattle.ss_meaning.specs.Low.{low}
 use Rattle.ss_meaning.specs.Window.{Window, ends_of}
 use Rattle.ss_meaning.specs.Emit.{Kind, rows_at}
 use Rattle.ss_meaning.specs.Entries.{WindowEntry, WindowEntries, entries_after}
-use Rattle.ss_meaning.specs.EntryLists.{AreInOrder, put_values, row_of_entry}
+use Rattle.ss_meaning.specs.EntryLists.{put_values, row_of_entry}
 use Rattle.ss_window.specs.Held.{join_of}
 
 -- what a window aggregates: its size, its hop, the aggregate and the field that it is of
@@ -38,11 +38,6 @@ window_of s = record { size = s.size; hop = s.hop; aggregate = aggregate_of s.ag
 
 abbrev pub kind_of : Settings → Kind
 kind_of s = operator_of (spec.Window s.size s.hop s.agg s.field)
-
--- what is true of every window: it has whole hops, and its entries stand in order
-pub record IsSound (state : State) : Type 0 where
-  pub hops : HasWholeHops state.settings.size state.settings.hop
-  pub order : AreInOrder state.entries
 
 -- the window remembers what its operator has to remember after p
 abbrev pub StandsAfter : State → List Arrival → Type 0

@@ -1,12 +1,11 @@
 ghost use Rattle.std.specs.Prelude.{◌≡◌, ◌*◌, ◌^◌, ◌≤◌, None, Ok, length, IfOk, IfErr};
-ghost use Rattle.ss_window.specs.Held.{entries_in};
 ghost use Rattle.ss_image.specs.Faults.{Fails};
 ghost use Rattle.ss_window.specs.ImageTests.{entry_read, entries_read, follows, is_count, is_open_end, is_sum_of};
 ghost use Rattle.ss_window.specs.ImageTests.{image_read, last, summands};
 
 use crate::entry::Entry;
+use crate::panes::Panes;
 use crate::total::Total;
-use crate::totals::{Totals, totals_of};
 use ss_expr::Agg;
 use ss_image::{ImageFault, i128_at, read_key, u32_at, u64_at};
 use std::alloc::Global;
@@ -19,16 +18,16 @@ const TOP_TIME: u64 = 1 << 63;
 
 const MOST_ROWS: u64 = 1 << 62;
 
-/// The totals whose image the bytes are.
+/// The panes whose image the bytes are.
 pub(crate) fn read_image(
     alloc: Global,
     hop: u64,
     agg: Agg,
     low: u64,
     bytes: &[u8],
-) -> Result<Totals, ImageFault>
+) -> Result<Panes, ImageFault>
     requires { 1 ≤ hop }
-    ensures ok { IfOk result (λ totals. image_read hop agg low bytes.now ≡ Ok (entries_in totals.entries)) }
+    ensures ok { IfOk result (λ panes. image_read hop agg low bytes.now ≡ Ok panes) }
     ensures fault { IfErr result (λ fault. Fails fault (image_read hop agg low bytes.now)) }
 {
     if bytes.len() < COUNT_LEN {
@@ -39,7 +38,7 @@ pub(crate) fn read_image(
         return Err(ImageFault::At { at: 0 });
     }
     let entries = read_entries(alloc, hop, agg, low, count, &bytes[COUNT_LEN..])?;
-    Ok(totals_of(alloc, &entries)?)
+    Ok(Panes::of_entries(alloc, &entries)?)
 }
 
 /// So many entries, which are all of the bytes.

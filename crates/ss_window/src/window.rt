@@ -11,38 +11,38 @@ ghost use Rattle.ss_window.specs.States.{with_row, left, reached, given_at, pane
 use crate::given::give_reached;
 use crate::image_reader::read_image;
 use crate::image_writer::put_image;
-use crate::totals::{Totals, all_few, closed, pane_count, put_all};
+use crate::panes::Panes;
+use crate::puts::put_all;
 use ss_elem::{Bound, Element, Event, Out};
 use ss_expr::{Agg, Field};
 use ss_image::ImageFault;
 use ss_meaning::{entries_are_in_order, entries_follow};
 use std::alloc::{AllocError, Global};
-use std::collections::BTreeMap;
 use std::marker::Model;
 
 /// A hopping window: it ends at each multiple of `hop`, and gives an aggregate of the rows of the last `size` for
 /// each key that has one.
 ///
-/// It remembers a total for each end above Low and each key with a row, in the order of ends and then of keys: the
-/// totals of one end stand together, and those of the first end stand in front.
+/// It remembers a pane for each end above Low with a row, in the order of ends, and in the pane a total for each key
+/// with a row at that end, in the order of keys.
 #[derive(Drop)]
 pub struct Window {
     size: u64,
     hop: u64,
     agg: Agg,
     of: Field,
-    totals: Totals,
+    panes: Panes,
 }
 
 impl Model for Window {
-    ghost use Rattle.ss_window.specs.Held.{entries_in};
-    ghost use Rattle.ss_window.specs.States.{State, IsSound, state_of};
+    ghost use Rattle.ss_expr.specs.Operators.{HasWholeHops};
+    ghost use Rattle.ss_window.specs.States.{State, state_of};
 
     ghost Value = { State };
 
-    ghost view = { λ w. state_of w.size w.hop w.agg w.of (entries_in w.totals.entries) };
+    ghost view = { λ w. state_of w.size w.hop w.agg w.of w.panes };
 
-    ghost invariant = { λ w. IsSound (state_of w.size w.hop w.agg w.of (entries_in w.totals.entries)) };
+    ghost invariant = { λ w. HasWholeHops w.size w.hop };
 }
 
 impl Window {
@@ -57,7 +57,7 @@ impl Window {
             hop,
             agg,
             of,
-            totals: BTreeMap::new(alloc),
+            panes: Panes::new(alloc),
         }
     }
 
@@ -86,7 +86,7 @@ impl Window {
     pub fn counts_few(&self) -> bool
         ensures { IsTrue result ↔ All CountsFew self.now.entries }
     {
-        all_few(&self.totals)
+        self.panes.counts_few()
     }
 
     /// How many rows the window gives where Low rises to `low`.
@@ -94,21 +94,21 @@ impl Window {
         ensures due { result ≡ length (reached low self.now.entries) }
         ensures few { result < 2 ^ 63 }
     {
-        closed(&self.totals, low.get()) as u64
+        self.panes.due(low.get())
     }
 
     /// How many entries the window remembers.
     pub fn held(&self) -> u64
         ensures { result ≡ length self.now.entries }
     {
-        self.totals.len() as u64
+        self.panes.held()
     }
 
     /// How many different ends the remembered entries have.
     pub fn panes(&self) -> u64
         ensures { result ≡ pane_count self.now.entries }
     {
-        pane_count(&self.totals)
+        self.panes.count()
     }
 
     /// Appends the image of the window's entries.
@@ -119,7 +119,7 @@ impl Window {
         ensures ok { OnOk result (out.new.items ≡ out.old.items ++ window_image self.now.entries) }
         ensures err { OnErr result (out.new.items ≡ out.old.items) }
     {
-        put_image(out, &self.totals)
+        put_image(out, &self.panes)
     }
 
     /// The window whose image these bytes are, where Low is `low`.
@@ -137,13 +137,13 @@ impl Window {
         ensures ok { IfOk result (λ w. image_read hop agg low bytes.now ≡ Ok w.entries) }
         ensures fault { IfErr result (λ fault. Fails fault (image_read hop agg low bytes.now)) }
     {
-        let totals = read_image(alloc, hop, agg, low.get(), bytes)?;
+        let panes = read_image(alloc, hop, agg, low.get(), bytes)?;
         Ok(Window {
             size,
             hop,
             agg,
             of,
-            totals,
+            panes,
         })
     }
 
@@ -158,12 +158,11 @@ impl Window {
         ensures place { OnOk result (1 ≤ out.new.spare) }
         ensures err { OnErr result (self.new ≡ self.old) }
     {
-        entries_are_in_order();
         let before = row.start / self.hop;
         let last = (row.start + self.size) / self.hop;
         out.reserve(1)?;
         put_all(
-            &mut self.totals,
+            &mut self.panes,
             self.hop,
             before + 1,
             last + 1,
@@ -184,9 +183,8 @@ impl Window {
         ensures err { OnErr result (self.new ≡ self.old) }
         ensures err_out { OnErr result (out.new.elements ≡ out.old.elements) }
     {
-        let count = closed(&self.totals, low);
-        out.reserve(count as u64 + 1)?;
-        give_reached(&mut self.totals, self.hop, low, out);
+        out.reserve(self.panes.due(low) + 1)?;
+        give_reached(&mut self.panes, self.hop, low, out);
         Ok(())
     }
 }

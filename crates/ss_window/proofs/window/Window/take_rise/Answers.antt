@@ -1,22 +1,8 @@
-use Rattle.std.proofs.Common.{◌++◌, List, filter, nat_le, sym, ap, subst, ◌∙◌, arith}
+use Rattle.std.proofs.Common.{◌++◌, List, filter, nat_le, ap, ◌∙◌}
 use Rattle.ss_elem.specs.declared.element.Element.{Element}
 use Rattle.ss_meaning.specs.Entries.{WindowEntry}
-use Rattle.ss_meaning.specs.EntryLists.{AreInOrder}
-use Rattle.ss_window.specs.Held.{entries_in}
 use Rattle.ss_window.specs.States.{State, left, given_at, rows_of_entries}
-use Rattle.ss_window.proofs.Rises.{reached_count, left_in_order}
 use Rattle.ss_window.proofs.window.Window.take_rise.Goals as goal
-
-pub give_reached-requires-clause-room : goal.give_reached-requires-clause-room
-give_reached-requires-clause-room c =
-    let count = reached_count c.args.low (entries_in c.self.inside.totals.entries) c.self.invariant.order in
-    omega (arith, count, c.closed-count.ensures.count, c.in_ok-reserve.ensures.room)
-
-pub invariant_of-self : goal.invariant_of-self
-invariant_of-self c = record {
-  hops = c.self.invariant.hops;
-  order = subst AreInOrder (sym c.give_reached.ensures.left) (left_in_order c.args.low (entries_in c.self.inside.totals.entries) c.self.invariant.order);
-}
 
 pub returns-clause-entries : goal.returns-clause-entries
 returns-clause-entries c = c.give_reached.ensures.left ∙ ap (λ (s : State). left c.args.low s.entries) c.self.view_is
@@ -25,5 +11,5 @@ pub returns-clause-given : goal.returns-clause-given
 returns-clause-given c =
     let rows : List WindowEntry → List Element = rows_of_entries c.self.inside.hop in
     c.give_reached.ensures.given
-    ∙ (ap (λ (before : List Element). before ++ rows (filter (λ (e : WindowEntry). nat_le e.end c.args.low) (entries_in c.self.inside.totals.entries))) c.in_ok-reserve.ensures.elements
+    ∙ (ap (λ (before : List Element). before ++ rows (filter (λ (e : WindowEntry). nat_le e.end c.args.low) c.self.inside.panes)) c.in_ok-reserve.ensures.elements
     ∙ ap (λ (s : State). c.args.out.now.elements ++ given_at c.args.low s) c.self.view_is)
