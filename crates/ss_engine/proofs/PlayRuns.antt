@@ -1,5 +1,5 @@
 -- A list of acts, and one act more.
-use Rattle.std.proofs.Common.{◌≡◌, ◌∙◌, ℕ, ◌+◌, ◌<◌, List, [], ◌∷◌, ◌++◌, length, get_or, take, drop, map, refl, sym, ap, subst, arith, append_assoc}
+use Rattle.std.proofs.Common.{◌≡◌, ◌∙◌, ℕ, Bool, true, false, ◌+◌, ◌<◌, List, [], ◌∷◌, ◌++◌, length, get_or, take, drop, map, refl, sym, ap, subst, arith, append_assoc}
 use Rattle.std.proofs.lemmas.List.{append-nil, drop_more, map-append, take-append-drop, take_more}
 use Rattle.ss_acts.specs.Leaves.{Goes, PutsToSinksAlone}
 use Rattle.ss_acts.specs.declared.fault.EngineFault.{EngineFault}
@@ -13,7 +13,7 @@ use Rattle.ss_state.specs.Step.{Made, Ran, Run, Step, run, step}
 use Rattle.ss_vault.specs.Told.{VaultTold}
 use Rattle.ss_engine.specs.Applies.{Makes}
 use Rattle.ss_engine.specs.Joint.{Joint}
-use Rattle.ss_engine.specs.Plays.{PlaysAll, PlaysUpTo, Runs, acts_of}
+use Rattle.ss_engine.specs.Plays.{PlaysAll, PlaysUpTo, Runs, TraceTold, acts_of, with_made}
 use Rattle.ss_engine.specs.PlaysOne.{MakesOne, StopsAtOne}
 use Rattle.ss_engine.specs.Told.{PlantTold, state_of}
 
@@ -78,22 +78,42 @@ runs_more p q r made a o runs makes puts = record {
       (subst (λ (plan : PlanText). PutsToSinksAlone plan q.vault r.vault) runs.plan puts);
 }
 
-pub plays_none : (p : PlantTold) (before : List Made) → PlaysAll p [] before p before
-plays_none p before = record { made = []; are = refl; trace = sym (append-nil before); runs = runs_none p }
+abbrev told_so : Bool → List Made → TraceTold
+told_so keeps made = record { keeps = keeps; made = made }
+
+with_none_so : (keeps : Bool) (made : List Made) → with_made (told_so keeps made) [] ≡ told_so keeps made
+with_none_so true made = ap (told_so true) (append-nil made)
+with_none_so false made = refl
+
+with_more_so : (keeps : Bool) (made xs ys : List Made)
+    → with_made (with_made (told_so keeps made) xs) ys ≡ with_made (told_so keeps made) (xs ++ ys)
+with_more_so true made xs ys = ap (told_so true) (append_assoc made xs ys)
+with_more_so false made xs ys = refl
+
+-- nothing was made behind it
+with_none : (trace : TraceTold) → with_made trace [] ≡ trace
+with_none trace = with_none_so trace.keeps trace.made
+
+-- some were made, and some more behind them
+with_more : (trace : TraceTold) (xs ys : List Made) → with_made (with_made trace xs) ys ≡ with_made trace (xs ++ ys)
+with_more trace xs ys = with_more_so trace.keeps trace.made xs ys
+
+pub plays_none : (p : PlantTold) (before : TraceTold) → PlaysAll p [] before p before
+plays_none p before = record { made = []; are = refl; trace = sym (with_none before); runs = runs_none p }
 
 -- one more act was made
-pub plays_more : (p q r : PlantTold) (acts : List Act) (a : Act) (o : Outcome) (before mid after : List Made) → PlaysAll p acts before q mid → MakesOne q a mid o r after
+pub plays_more : (p q r : PlantTold) (acts : List Act) (a : Act) (o : Outcome) (before mid after : TraceTold) → PlaysAll p acts before q mid → MakesOne q a mid o r after
     → PlaysAll p (acts ++ a ∷ []) before r after
 plays_more p q r acts a o before mid after plays one = record {
   made = plays.made ++ made_so a o ∷ [];
   are = map-append (λ (m : Made). m.act) plays.made (made_so a o ∷ []) ∙ ap (λ (xs : List Act). xs ++ a ∷ []) plays.are;
-  trace = one.trace ∙ ap (λ (xs : List Made). xs ++ made_so a o ∷ []) plays.trace
-      ∙ append_assoc before plays.made (made_so a o ∷ []);
+  trace = one.trace ∙ ap (λ (t : TraceTold). with_made t (made_so a o ∷ [])) plays.trace
+      ∙ with_more before plays.made (made_so a o ∷ []);
   runs = runs_more p q r plays.made a o plays.runs one.makes one.outputs;
 }
 
 -- one more act met a fault
-pub plays_up_to : (p q r : PlantTold) (acts rest : List Act) (a : Act) (before mid after : List Made) (f : EngineFault) → PlaysAll p acts before q mid
+pub plays_up_to : (p q r : PlantTold) (acts rest : List Act) (a : Act) (before mid after : TraceTold) (f : EngineFault) → PlaysAll p acts before q mid
     → Joint q → StopsAtOne q a mid f r after → PlaysUpTo p (acts ++ a ∷ rest) before f r after
 plays_up_to p q r acts rest a before mid after f plays joint one = record {
   made = plays.made;
@@ -110,13 +130,13 @@ plays_up_to p q r acts rest a before mid after f plays joint one = record {
 }
 
 -- the same at a place of a list of acts
-pub plays_to : (p q r : PlantTold) (acts : List Act) (i : ℕ) (d : Act) (o : Outcome) (before mid after : List Made) → i < length acts
+pub plays_to : (p q r : PlantTold) (acts : List Act) (i : ℕ) (d : Act) (o : Outcome) (before mid after : TraceTold) → i < length acts
     → PlaysAll p (take i acts) before q mid → MakesOne q (get_or acts i d) mid o r after → PlaysAll p (take (i + 1) acts) before r after
 plays_to p q r acts i d o before mid after h plays one =
     subst (λ (xs : List Act). PlaysAll p xs before r after) (sym (take_more acts i d h))
     (plays_more p q r (take i acts) (get_or acts i d) o before mid after plays one)
 
-pub plays_until : (p q r : PlantTold) (acts : List Act) (i : ℕ) (d : Act) (before mid after : List Made) (f : EngineFault) → i < length acts
+pub plays_until : (p q r : PlantTold) (acts : List Act) (i : ℕ) (d : Act) (before mid after : TraceTold) (f : EngineFault) → i < length acts
     → PlaysAll p (take i acts) before q mid → Joint q → StopsAtOne q (get_or acts i d) mid f r after → PlaysUpTo p acts before f r after
 plays_until p q r acts i d before mid after f h plays joint one =
     subst (λ (xs : List Act). PlaysUpTo p xs before f r after)

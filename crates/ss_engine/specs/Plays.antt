@@ -1,5 +1,5 @@
 -- What a list of acts makes of a running job, one behind the other.
-use Rattle.std.specs.Prelude.{◌≡◌, ◌⊎◌, List, ◌∷◌, ◌++◌, map, Result, Ok, Err}
+use Rattle.std.specs.Prelude.{◌≡◌, ◌⊎◌, Bool, true, List, [], ◌∷◌, ◌++◌, map, Result, Ok, Err, if◌then◌else◌}
 use Rattle.ss_acts.specs.Leaves.{Goes, PutsToSinksAlone}
 use Rattle.ss_acts.specs.declared.fault.EngineFault.{EngineFault}
 use Rattle.ss_acts.specs.declared.fault.EngineFault.TheVariants as fault
@@ -18,6 +18,22 @@ made_of pairs = map (λ pair. record { act = pair.0; outcome = pair.1 }) pairs
 abbrev pub acts_of : List Made → List Act
 acts_of made = map (λ m. m.act) made
 
+-- what a trace tells: the acts that were made, each with what came of it, if it keeps them
+pub record TraceTold : Type 0 where
+  pub keeps : Bool
+  pub made : List Made
+
+-- that of no act yet, which keeps those to come
+abbrev pub no_acts : TraceTold
+no_acts = record { keeps = true; made = [] }
+
+-- the trace behind which these were made
+abbrev pub with_made : TraceTold → List Made → TraceTold
+with_made trace made = record {
+  keeps = trace.keeps;
+  made = if trace.keeps then trace.made ++ made else trace.made;
+}
+
 -- these acts with these outcomes led from one moment of a job to another, and halted nothing
 pub record Runs (p : PlantTold) (made : List Made) (q : PlantTold) : Type 0 where
   pub plan : q.plan ≡ p.plan
@@ -26,11 +42,11 @@ pub record Runs (p : PlantTold) (made : List Made) (q : PlantTold) : Type 0 wher
   pub outputs : PutsToSinksAlone p.plan p.vault q.vault
 
 -- all of the acts were made, and the trace has each with its outcome
-pub record PlaysAll (p : PlantTold) (acts : List Act) (before : List Made) (q : PlantTold) (after : List Made) : Type 0
+pub record PlaysAll (p : PlantTold) (acts : List Act) (before : TraceTold) (q : PlantTold) (after : TraceTold) : Type 0
   where
     pub made : List Made
     pub are : acts_of made ≡ acts
-    pub trace : after ≡ before ++ made
+    pub trace : after ≡ with_made before made
     pub runs : Runs p made q
 
 -- an act met a fault, or there was no memory for it in the trace, and it wasn't begun
@@ -38,19 +54,19 @@ abbrev pub StopsAt : PlantTold → Act → PlantTold → EngineFault → Type 0
 StopsAt p a q f = Meets p a q f ⊎ ((f ≡ fault.Memory) × (q ≡ p))
 
 -- the acts before one were made, and the trace has each with its outcome; at this one the list stopped
-pub record PlaysUpTo (p : PlantTold) (acts : List Act) (before : List Made) (f : EngineFault) (q : PlantTold)
-    (after : List Made) : Type 0 where
+pub record PlaysUpTo (p : PlantTold) (acts : List Act) (before : TraceTold) (f : EngineFault) (q : PlantTold)
+    (after : TraceTold) : Type 0 where
   pub made : List Made
   pub next : Act
   pub rest : List Act
   pub are : acts ≡ acts_of made ++ next ∷ rest
-  pub trace : after ≡ before ++ made
+  pub trace : after ≡ with_made before made
   pub between : PlantTold
   pub runs : Runs p made between
   pub joint : Joint between
   pub stops : StopsAt between next q f
   pub outputs : PutsToSinksAlone p.plan p.vault q.vault
 
-abbrev pub Plays : PlantTold → List Act → List Made → Result (Unit {0}) EngineFault → PlantTold → List Made → Type 0
+abbrev pub Plays : PlantTold → List Act → TraceTold → Result (Unit {0}) EngineFault → PlantTold → TraceTold → Type 0
 Plays p acts before (Ok _) q after = PlaysAll p acts before q after
 Plays p acts before (Err f) q after = PlaysUpTo p acts before f q after

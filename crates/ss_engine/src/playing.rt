@@ -12,8 +12,8 @@ use ss_acts::EngineFault;
 use ss_fail::{Act, Outcome};
 use ss_outside::{Depot, Outputs};
 
-/// Makes the acts one behind the other, up to the first fault. The trace gets each that was made, with what came of
-/// it.
+/// Makes the acts one behind the other, up to the first fault. A trace that keeps acts gets each that was made, with
+/// what came of it.
 pub fn play<O: Outputs, D: Depot>(
     plant: &mut Plant<O, D>,
     acts: &[Act],
@@ -34,8 +34,8 @@ pub fn play<O: Outputs, D: Depot>(
     Ok(())
 }
 
-/// Makes an act, puts it with what came of it behind the others of the trace, and tells what came of it. Its place
-/// there is reserved first, so that none is made that can't be told.
+/// Makes an act, puts it with what came of it behind the others of a trace that keeps them, and tells what came of it.
+/// Its place there is reserved first, so that none is made that can't be told.
 pub fn play_one<O: Outputs, D: Depot>(
     plant: &mut Plant<O, D>,
     act: Act,
@@ -47,6 +47,9 @@ pub fn play_one<O: Outputs, D: Depot>(
     ensures plays { PlaysOne (plant_told O.told D.told plant.old) act trace.old
         result (plant_told O.told D.told plant.new) trace.new }
 {
+    if !trace.keeps {
+        return apply(plant, act);
+    }
     match trace.pairs.reserve(1) {
         Ok(()) => (),
         Err(_) => return Err(EngineFault::Memory),

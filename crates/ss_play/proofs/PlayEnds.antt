@@ -11,7 +11,7 @@ use Rattle.ss_acts.specs.declared.fault.EngineFault.TheVariants as engine
 use Rattle.ss_engine.specs.Applies.{CanMeet, IsCause, IsFullAt, MayApply}
 use Rattle.ss_engine.specs.Begins.{Begins}
 use Rattle.ss_engine.specs.Joint.{Joint}
-use Rattle.ss_engine.specs.Plays.{PlaysAll, PlaysUpTo, Runs, StopsAt, acts_of}
+use Rattle.ss_engine.specs.Plays.{PlaysAll, PlaysUpTo, Runs, StopsAt, TraceTold, acts_of, no_acts, with_made}
 use Rattle.ss_engine.specs.Told.{PlantTold, state_of}
 use Rattle.ss_fail.specs.declared.act.Act.{Act}
 use Rattle.ss_fail.specs.declared.act.Act.TheVariants as act
@@ -210,10 +210,10 @@ next_may plan acts before rest next e may =
     (ap (λ (xs : List Act). get_or xs (length before) next) e ∙ get_or_at before next rest next (length before) refl)
     (may (length before) next lt)
 
-pub ends_early : (p : PlantTold) → PlanFacts p.plan → (acts : List Act) (before after : List Made) (f : EngineFault) (q : PlantTold)
-    → p.vault.halted ≡ None → All (MayAct (plan_numbers p.plan)) acts → before ≡ [] → PlaysUpTo p acts before f q after
+pub ends_early : (p : PlantTold) → PlanFacts p.plan → (acts : List Act) (before after : TraceTold) (f : EngineFault) (q : PlantTold)
+    → p.vault.halted ≡ None → All (MayAct (plan_numbers p.plan)) acts → PlaysUpTo p acts before f q after
     → EndsEarly p acts (of_engine f) q
-ends_early p facts acts before after f q going may none plays =
+ends_early p facts acts before after f q going may plays =
     let mid = plays.between in
     let same : mid.plan ≡ p.plan = plays.runs.plan in
     let may_next : MayAct (plan_numbers p.plan) plays.next = next_may p.plan acts (acts_of plays.made) plays.rest plays.next plays.are may in
@@ -223,7 +223,7 @@ ends_early p facts acts before after f q going may none plays =
     let counts : NoCountFell (devices_of p.vault) (devices_of mid.vault) = plays.runs.goes.counts in
     record {
       plan = stop.plan ∙ same;
-      stops = inl (f, after, subst (λ (made : List Made). PlaysUpTo p acts made f q after) none plays, refl);
+      stops = inl (f, before, after, plays, refl);
       cause = cause_before p.plan (devices_of p.vault) (devices_of mid.vault) (devices_of q.vault) (of_engine f) counts
           (subst (λ (plan : PlanText). IsCauseOf plan (devices_of mid.vault) (of_engine f) (devices_of q.vault)) same stop.told.cause);
       counts = fell_never (counts_of p.vault) (counts_of mid.vault) (counts_of q.vault) counts stop.told.counts;
@@ -231,36 +231,41 @@ ends_early p facts acts before after f q going may none plays =
     }
 
 -- all acts were made, but there was no memory to tell of them
-ends_untold : (p : PlantTold) (acts : List Act) (after : List Made) (f : PlayFault) (q : PlantTold) → PlaysAll p acts [] q after
+ends_untold : (p : PlantTold) (acts : List Act) (made : List Made) (f : PlayFault) (q : PlantTold) → acts_of made ≡ acts → Runs p made q
     → f ≡ fault.Memory → EndsEarly p acts f q
-ends_untold p acts after f q plays memory = record {
-  plan = plays.runs.plan;
-  stops = inr (after, plays, memory);
+ends_untold p acts made f q are runs memory = record {
+  plan = runs.plan;
+  stops = inr (made, are, runs, memory);
   cause = subst (λ (g : PlayFault). IsCauseOf p.plan (devices_of p.vault) g (devices_of q.vault)) (sym memory) tt;
-  counts = plays.runs.goes.counts;
-  outputs = plays.runs.outputs;
+  counts = runs.goes.counts;
+  outputs = runs.outputs;
 }
 
+-- a trace of no act before has just those that were made
+told_made : (p : PlantTold) (acts : List Act) (before after : TraceTold) (q : PlantTold) (plays : PlaysAll p acts before q after) → before ≡ no_acts
+    → after.made ≡ plays.made
+told_made p acts before after q plays none =
+    ap (λ (t : TraceTold). t.made) (plays.trace ∙ ap (λ (t : TraceTold). with_made t plays.made) none)
+
 -- all acts were made, and telling of them went well, or wanted memory
-pub ends_told : (p : PlantTold) (acts : List Act) (before after : List Made) (q : PlantTold) (answer : Result Report PlayFault)
-    → PlaysAll p acts before q after → before ≡ [] → IfOk answer (Tells q.plan after (state_of q)) → IfErr answer (λ f. f ≡ fault.Memory)
+pub ends_told : (p : PlantTold) (acts : List Act) (before after : TraceTold) (q : PlantTold) (answer : Result Report PlayFault)
+    → PlaysAll p acts before q after → before ≡ no_acts → IfOk answer (Tells q.plan after.made (state_of q)) → IfErr answer (λ f. f ≡ fault.Memory)
     → Ends p acts answer q
 ends_told p acts before after q (Ok report) plays none tells memory = record {
   made = plays.made;
   are = plays.are;
   runs = plays.runs;
-  tells = subst (λ (made : List Made). Tells q.plan made (state_of q) report)
-      (plays.trace ∙ ap (λ (made : List Made). made ++ plays.made) none) tells;
+  tells = subst (λ (made : List Made). Tells q.plan made (state_of q) report) (told_made p acts before after q plays none) tells;
 }
 ends_told p acts before after q (Err f) plays none tells memory =
-    ends_untold p acts after f q (subst (λ (made : List Made). PlaysAll p acts made q after) none plays) memory
+    ends_untold p acts plays.made f q plays.are plays.runs memory
 
 -- the acts that were made may be told of
-pub may_be_made : (p : PlantTold) (acts : List Act) (before after : List Made) (q : PlantTold) → PlaysAll p acts before q after → before ≡ []
-    → All (MayApply p.plan) acts → All (MayApply q.plan) (acts_of after)
+pub may_be_made : (p : PlantTold) (acts : List Act) (before after : TraceTold) (q : PlantTold) → PlaysAll p acts before q after → before ≡ no_acts
+    → All (MayApply p.plan) acts → All (MayApply q.plan) (acts_of after.made)
 may_be_made p acts before after q plays none may =
-    let are : after ≡ plays.made = plays.trace ∙ ap (λ (made : List Made). made ++ plays.made) none in
-    subst (λ (plan : PlanText). All (MayApply plan) (acts_of after)) (sym plays.runs.plan)
+    let are : after.made ≡ plays.made = told_made p acts before after q plays none in
+    subst (λ (plan : PlanText). All (MayApply plan) (acts_of after.made)) (sym plays.runs.plan)
     (subst (λ (made : List Made). All (MayApply p.plan) (acts_of made)) (sym are)
     (subst (All (MayApply p.plan)) (sym plays.are) may))
 
@@ -381,23 +386,22 @@ refused plan acts f before after same refuses =
 -- ---- acts that others chose
 
 pub all_told : AllAreTold
-all_told plan before p q acts made since plays =
-    subst (λ (list : List Made). Played plan acts before list (state_of q) (devices_of q.vault)) (sym plays.trace)
-    (played plan acts before p q since.begins since.joint since.left plays.made plays.are plays.runs)
+all_told plan before p q acts made since are runs =
+    played plan acts before p q since.begins since.joint since.left made are runs
 
 stops_of : (plan : PlanText) (before : Devices) (p q : PlantTold) (acts : List Act) (f : PlayFault) → SinceStart plan before p q
     → EndsEarly p acts f q → StopsPlaying plan acts before f (devices_of q.vault)
 stops_of plan before p q acts f since early = plays_early plan acts before p q since.begins since.joint since.left f early
 
 pub stops_told : StopsAreTold
-stops_told plan before p q acts f facts since may (inl (e, trace, plays, is)) =
+stops_told plan before p q acts f facts since may (inl (e, from, to, plays, is)) =
     let of_plan : plan ≡ p.plan = sym since.begins.of_plan in
     let early : EndsEarly p acts (of_engine e) q =
-    ends_early p (subst PlanFacts of_plan facts) acts [] trace e q since.begins.halted
-    (subst (λ (text : PlanText). All (MayAct (plan_numbers text)) acts) of_plan may) refl plays in
+    ends_early p (subst PlanFacts of_plan facts) acts from to e q since.begins.halted
+    (subst (λ (text : PlanText). All (MayAct (plan_numbers text)) acts) of_plan may) plays in
     stops_of plan before p q acts f since (subst (λ (g : PlayFault). EndsEarly p acts g q) (sym is) early)
-stops_told plan before p q acts f facts since may (inr (trace, plays, memory)) =
-    stops_of plan before p q acts f since (ends_untold p acts trace f q plays memory)
+stops_told plan before p q acts f facts since may (inr (made, are, runs, memory)) =
+    stops_of plan before p q acts f since (ends_untold p acts made f q are runs memory)
 
 pub refusals_told : RefusalsAreTold
 refusals_told plan before after acts f same refuses = refused plan acts f before after same refuses

@@ -1,8 +1,8 @@
 -- What is said of acts that were made on a job from its start on, whoever chose them.
-use Rattle.std.specs.Prelude.{◌≡◌, List, [], All}
+use Rattle.std.specs.Prelude.{◌≡◌, List, All}
 use Rattle.ss_engine.specs.Begins.{Begins}
 use Rattle.ss_engine.specs.Joint.{Joint}
-use Rattle.ss_engine.specs.Plays.{PlaysAll}
+use Rattle.ss_engine.specs.Plays.{Runs, acts_of}
 use Rattle.ss_engine.specs.Told.{PlantTold, state_of}
 use Rattle.ss_fail.specs.declared.act.Act.{Act}
 use Rattle.ss_frames.specs.Plans.{plan_numbers}
@@ -26,7 +26,7 @@ pub record SinceStart (plan : PlanText) (before : Devices) (p q : PlantTold) : T
 abbrev pub AllAreTold : Type 0
 AllAreTold =
     (plan : PlanText) (before : Devices) (p q : PlantTold) (acts : List Act) (made : List Made)
-    → SinceStart plan before p q → PlaysAll p acts [] q made
+    → SinceStart plan before p q → acts_of made ≡ acts → Runs p made q
     → Played plan acts before made (state_of q) (devices_of q.vault)
 
 -- where they stopped, and each may be made on such a job, it is told why, and what is left

@@ -1,9 +1,9 @@
 -- How it ends that a schedule is played, from the start of its job on.
-use Rattle.std.specs.Prelude.{◌≡◌, ◌≢◌, ◌⊎◌, ℕ, ◌<◌, List, [], length, slice_get, Some, None, Result, Ok, Err}
+use Rattle.std.specs.Prelude.{◌≡◌, ◌≢◌, ◌⊎◌, ℕ, ◌<◌, List, length, slice_get, Some, None, Result, Ok, Err}
 use Rattle.ss_acts.specs.declared.fault.EngineFault.{EngineFault}
 use Rattle.ss_engine.specs.Begins.{Begins}
 use Rattle.ss_engine.specs.Joint.{Joint}
-use Rattle.ss_engine.specs.Plays.{PlaysAll, PlaysUpTo, Runs, acts_of}
+use Rattle.ss_engine.specs.Plays.{PlaysUpTo, Runs, TraceTold, acts_of}
 use Rattle.ss_engine.specs.Told.{PlantTold, state_of}
 use Rattle.ss_fail.specs.declared.act.Act.{Act}
 use Rattle.ss_frames.specs.Plans.{plan_numbers}
@@ -78,8 +78,9 @@ IsCauseOf plan before (fault.Damaged v n) after =
 -- them
 abbrev pub StopsAfter : PlantTold → List Act → PlayFault → PlantTold → Type 0
 StopsAfter start acts f end =
-    ((e : EngineFault) × (trace : List Made) × PlaysUpTo start acts [] e end trace × (f ≡ of_engine e))
-    ⊎ ((trace : List Made) × PlaysAll start acts [] end trace × (f ≡ fault.Memory))
+    ((e : EngineFault) × (before : TraceTold) × (after : TraceTold) × PlaysUpTo start acts before e end after
+    × (f ≡ of_engine e))
+    ⊎ ((made : List Made) × (acts_of made ≡ acts) × Runs start made end × (f ≡ fault.Memory))
 
 -- a job that was started, and stopped so: it is joint, and its vault sound, so that the file of each sink has its lines
 -- up to some element, and at most one of them a part of its next line besides

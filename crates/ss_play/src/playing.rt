@@ -98,8 +98,8 @@ fn tell<O: Outputs, D: Depot>(
     trace: &Trace,
 ) -> Result<Report, PlayFault>
     requires joint { Joint (plant_told O.told D.told plant.now) }
-    requires acts { All (MayApply (plant_told O.told D.told plant.now).plan) (acts_of trace.now) }
-    ensures tells { IfOk result (Tells (plant_told O.told D.told plant.now).plan trace.now
+    requires acts { All (MayApply (plant_told O.told D.told plant.now).plan) (acts_of trace.now.made) }
+    ensures tells { IfOk result (Tells (plant_told O.told D.told plant.now).plan trace.now.made
         (state_of (plant_told O.told D.told plant.now))) }
     ensures memory { IfErr result (λ fault. fault ≡ PlayFault.Memory) }
 {

@@ -41,8 +41,8 @@ pub(crate) fn report_of<O: Outputs, D: Depot>(
     trace: &Trace,
 ) -> Result<Vec<u8>, Memory>
     requires joint { Joint (plant_told O.told D.told plant.now) }
-    requires acts { All (MayApply (plant_told O.told D.told plant.now).plan) (acts_of trace.now) }
-    ensures { IfOk result (λ text. text.items ≡ report_text (plant_told O.told D.told plant.now).plan trace.now
+    requires acts { All (MayApply (plant_told O.told D.told plant.now).plan) (acts_of trace.now.made) }
+    ensures { IfOk result (λ text. text.items ≡ report_text (plant_told O.told D.told plant.now).plan trace.now.made
         (state_of (plant_told O.told D.told plant.now))) }
 {
     let plan = plant.plan();
@@ -52,10 +52,10 @@ pub(crate) fn report_of<O: Outputs, D: Depot>(
     Ok(text)
 }
 
-/// The lines of acts that were made on a job of this plan, each with what came of it.
+/// The lines of the acts that a trace keeps, which were made on a job of this plan, each with what came of it.
 pub fn trace_of(alloc: Global, plan: &Plan, trace: &Trace) -> Result<Vec<u8>, Memory>
-    requires { All (MayAct (plan_numbers plan.now)) (acts_of trace.now) }
-    ensures { IfOk result (λ text. text.items ≡ trace_lines plan.now.job.roles trace.now) }
+    requires { All (MayAct (plan_numbers plan.now)) (acts_of trace.now.made) }
+    ensures { IfOk result (λ text. text.items ≡ trace_lines plan.now.job.roles trace.now.made) }
 {
     let _count = vertex_count(plan);
     let mut text = Vec::new(alloc);

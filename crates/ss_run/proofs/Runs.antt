@@ -1,17 +1,18 @@
 -- How it ends that a job is run, from how the driver ends it.
-use Rattle.std.proofs.Common.{◌≡◌, ℕ, List, [], ◌∷◌, ◌++◌, IfSome, Result, Ok, Err, refl, sym, ap, ◌∙◌, subst, inl, inr}
+use Rattle.std.proofs.Common.{◌≡◌, ℕ, List, [], ◌∷◌, ◌++◌, IfSome, Result, Ok, Err, true, false, refl, sym, ap, ◌∙◌, subst, inl, inr, arith}
 use Rattle.std.specs.Prelude.{All, Bool}
 use Rattle.std.specs.List.{AllByRecursion}
 use Rattle.std.proofs.lemmas.List.Elements.{All-from_recursion}
 use Rattle.ss_acts.specs.declared.fault.EngineFault.{EngineFault}
-use Rattle.ss_engine.specs.Plays.{Runs, PlaysAll, PlaysUpTo, acts_of}
+use Rattle.ss_engine.specs.Plays.{PlaysAll, TraceTold, acts_of, with_made}
 use Rattle.ss_engine.specs.Told.{PlantTold, state_of}
 use Rattle.ss_fail.specs.declared.act.Act.{Act}
 use Rattle.ss_fail.specs.declared.trigger.Trigger.{Trigger}
 use Rattle.ss_frames.specs.Plans.{plan_numbers}
 use Rattle.ss_outside.specs.Depot.{DepotTold}
 use Rattle.ss_outside.specs.Told.{OutputsTold}
-use Rattle.ss_plan.specs.Plan.{PlanText}
+use Rattle.ss_meaning.specs.Meaning.{meaning}
+use Rattle.ss_plan.specs.Plan.{PlanText, vertices_of}
 use Rattle.ss_play.specs.Ending.{devices_of}
 use Rattle.ss_play.specs.Faults.{of_engine, of_vault}
 use Rattle.ss_play.specs.Laws.{AllAreTold, RefusalsAreTold, SinceStart, StopsAreTold}
@@ -30,7 +31,7 @@ use Rattle.ss_vault.specs.Sound.{nothing_behind, stream_put, text_put}
 use Rattle.ss_vault.specs.declared.fault.VaultFault.{VaultFault}
 use Rattle.ss_elem.specs.Line.{text_of}
 use Rattle.ss_run.specs.Ending.{Ends, EndsEarly, EndsWhole}
-use Rattle.ss_run.specs.Running.{AllArePut, EndsRunning, FilesAreWhole, ObeyFromStart, StopsRunning, TellsRun}
+use Rattle.ss_run.specs.Running.{AllArePut, EndsRunning, FilesAreWhole, ObeyFromStart, StopsRunning, TellsRun, trace_wanted}
 use Rattle.ss_run.specs.declared.running.Told.{Told}
 use Rattle.ss_run.proofs.Sinks.{length_put, sink_of_file, whole_text}
 
@@ -48,53 +49,86 @@ may_be_made job ts s acts obey = All-from_recursion (MayAct job) acts (obeys_may
 
 -- ---- a job that goes on
 
--- what a driver made is just its trace, where that had nothing before
-record Drove (p : PlantTold) (ts : List Trigger) (q : PlantTold) (made : List Made) : Type 0 where
-  obey : Obeys (plan_numbers p.plan) ts (state_of p) (acts_of made)
-  runs : Runs p made q
+-- a trace of no act yet, which keeps those to come where they are wanted
+abbrev pub wanted : Bool → TraceTold
+wanted wants = record { keeps = wants; made = [] }
 
-drove : (p q : PlantTold) (ts : List Trigger) (before after : List Made) → before ≡ [] → Drives ts p before (Ok tt) q after → Drove p ts q after
-drove p q ts before after none drives =
-    let are : after ≡ drives.plays.made = drives.plays.trace ∙ ap (λ (made : List Made). made ++ drives.plays.made) none in
-    subst (Drove p ts q) (sym are) (record {
-      obey = subst (λ (acts : List Act). Obeys (plan_numbers p.plan) ts (state_of p) acts) (sym drives.plays.are) drives.obey;
-      runs = drives.plays.runs;
-    })
+-- what it has of these
+abbrev kept : Bool → List Made → List Made
+kept wants made = (with_made (wanted wants) made).made
 
-plays_itself : (p q : PlantTold) (made : List Made) → Runs p made q → PlaysAll p (acts_of made) [] q made
-plays_itself p q made runs = record { made = made; are = refl; trace = refl; runs = runs }
+kept_of : (p q : PlantTold) (acts : List Act) (wants : Bool) (before after : TraceTold) (plays : PlaysAll p acts before q after) → before ≡ wanted wants
+    → after.made ≡ kept wants plays.made
+kept_of p q acts wants before after plays none =
+    ap (λ (t : TraceTold). t.made) (plays.trace ∙ ap (λ (t : TraceTold). with_made t plays.made) none)
 
--- the acts that it made can be told
-pub made_may : (p q : PlantTold) (ts : List Trigger) (before after : List Made) → before ≡ [] → Drives ts p before (Ok tt) q after
-    → All (MayAct (plan_numbers q.plan)) (acts_of after)
-made_may p q ts before after none drives =
-    let all : Drove p ts q after = drove p q ts before after none drives in
-    subst (λ (plan : PlanText). All (MayAct (plan_numbers plan)) (acts_of after)) (sym all.runs.plan)
-    (may_be_made (plan_numbers p.plan) ts (state_of p) (acts_of after) all.obey)
+-- so the lines of all that it has are those that are wanted
+lines_kept : (plan : PlanText) (wants : Bool) (made : List Made) → trace_wanted true plan (kept wants made) ≡ trace_wanted wants plan made
+lines_kept plan true made = refl
+lines_kept plan false made = refl
 
-pub ends_whole : (p q : PlantTold) (ts : List Trigger) (wants : Bool) (before after : List Made) (told : Told) → before ≡ []
-    → Drives ts p before (Ok tt) q after → AllPut q → TellsRun q.plan wants after (state_of q) told → EndsWhole p ts wants told q
+all_kept : (P : Act → Type 0) (wants : Bool) (made : List Made) → All P (acts_of made) → All P (acts_of (kept wants made))
+all_kept P true made all = all
+all_kept P false made all = λ i d h. absurd (omega (arith, h))
+
+-- the acts that the driver made obey the rule, each with what came of it
+obeyed : (p q : PlantTold) (ts : List Trigger) (before after : TraceTold) (drives : Drives ts p before (Ok tt) q after)
+    → Obeys (plan_numbers p.plan) ts (state_of p) (acts_of drives.plays.made)
+obeyed p q ts before after drives =
+    subst (λ (acts : List Act). Obeys (plan_numbers p.plan) ts (state_of p) acts) (sym drives.plays.are) drives.obey
+
+-- and those that its trace has can be told
+pub made_may : (p q : PlantTold) (ts : List Trigger) (wants : Bool) (before after : TraceTold) → before ≡ wanted wants
+    → Drives ts p before (Ok tt) q after → All (MayAct (plan_numbers q.plan)) (acts_of after.made)
+made_may p q ts wants before after none drives =
+    let made : List Made = drives.plays.made in
+    subst (λ (list : List Made). All (MayAct (plan_numbers q.plan)) (acts_of list))
+    (sym (kept_of p q drives.acts wants before after drives.plays none))
+    (all_kept (MayAct (plan_numbers q.plan)) wants made
+    (subst (λ (plan : PlanText). All (MayAct (plan_numbers plan)) (acts_of made)) (sym drives.plays.runs.plan)
+    (may_be_made (plan_numbers p.plan) ts (state_of p) (acts_of made) (obeyed p q ts before after drives))))
+
+pub ends_whole : (p q : PlantTold) (ts : List Trigger) (wants : Bool) (before after : TraceTold) (told : Told) → before ≡ wanted wants
+    → Drives ts p before (Ok tt) q after → AllPut q → TellsRun q.plan true after.made (state_of q) told → EndsWhole p ts wants told q
 ends_whole p q ts wants before after told none drives put tells =
-    let all : Drove p ts q after = drove p q ts before after none drives in
-    record { made = after; obey = all.obey; plays = plays_itself p q after all.runs; put = put; tells = tells }
+    let made : List Made = drives.plays.made in
+    record {
+      made = made;
+      obey = obeyed p q ts before after drives;
+      runs = drives.plays.runs;
+      put = put;
+      tells = record {
+        trace = tells.trace
+            ∙ ap (trace_wanted true q.plan) (kept_of p q drives.acts wants before after drives.plays none)
+            ∙ lines_kept q.plan wants made;
+        summary = tells.summary;
+        marks = tells.marks;
+      };
+    }
 
-pub ends_untold : (p q : PlantTold) (ts : List Trigger) (before after : List Made) → before ≡ [] → Drives ts p before (Ok tt) q after
+pub ends_untold : (p q : PlantTold) (ts : List Trigger) (before after : TraceTold) → Drives ts p before (Ok tt) q after
     → EndsEarly p ts fault.Memory q
-ends_untold p q ts before after none drives =
-    let all : Drove p ts q after = drove p q ts before after none drives in
-    record { acts = acts_of after; obey = all.obey; stops = inr (after, plays_itself p q after all.runs, refl) }
-
-pub ends_early : (p q : PlantTold) (ts : List Trigger) (before after : List Made) (f : EngineFault) → before ≡ []
-    → Drives ts p before (Err f) q after → EndsEarly p ts (of_engine f) q
-ends_early p q ts before after f none drives = record {
+ends_untold p q ts before after drives = record {
   acts = drives.acts;
   obey = drives.obey;
-  stops = inl (f, after, subst (λ (made : List Made). PlaysUpTo p drives.acts made f q after) none drives.plays, refl);
+  stops = inr (drives.plays.made, drives.plays.are, drives.plays.runs, refl);
+}
+
+pub ends_early : (p q : PlantTold) (ts : List Trigger) (before after : TraceTold) (f : EngineFault) → Drives ts p before (Err f) q after
+    → EndsEarly p ts (of_engine f) q
+ends_early p q ts before after f drives = record {
+  acts = drives.acts;
+  obey = drives.obey;
+  stops = inl (f, before, after, drives.plays, refl);
 }
 
 -- ---- a job, from its start on
 
-module _ (all : AllAreTold) (stops : StopsAreTold) (plan : PlanText) (facts : PlanFacts plan) (ts : List Trigger) (before : Devices)
+-- what each sink puts is its own stream, as the job means it
+abbrev pub SinksMean : Type 0
+SinksMean = (plan : PlanText) → PlanFacts plan → (k : ℕ) → IsSink (plan_numbers plan) k → stream_put plan k ≡ meaning (vertices_of plan) k
+
+module _ (all : AllAreTold) (stops : StopsAreTold) (means : SinksMean) (plan : PlanText) (facts : PlanFacts plan) (ts : List Trigger) (before : Devices)
     (p q : PlantTold) (since : SinceStart plan before p q) where
   obey_from : (acts : List Act) → Obeys (plan_numbers p.plan) ts (state_of p) acts → ObeyFromStart plan ts acts
   obey_from acts obey =
@@ -112,15 +146,16 @@ module _ (all : AllAreTold) (stops : StopsAreTold) (plan : PlanText) (facts : Pl
       → FilesAreWhole plan (devices_of q.vault)
   files_whole made played put k file is =
       let l = (state_of q).vault.ledger in
-      let same : text_put plan l k ++ nothing_behind k ≡ text_of (stream_put plan k) =
-      whole_text plan l k (put k (sink_of_file plan facts k file is)) in
+      let sink : IsSink (plan_numbers plan) k = sink_of_file plan facts k file is in
+      let same : text_put plan l k ++ nothing_behind k ≡ text_of (meaning (vertices_of plan) k) =
+      whole_text plan l k (put k sink) ∙ ap text_of (means plan facts k sink) in
       subst (λ (text : List ℕ). IfSome (q.vault.outputs.bytes file) (λ bytes. bytes ≡ text)) same (played.files.sinks k file is)
 
   run_whole : (wants : Bool) (told : Told) → EndsWhole p ts wants told q → EndsRunning plan ts wants before (Ok told) (devices_of q.vault)
   run_whole wants told ends =
       let played : Played plan (acts_of ends.made) before ends.made (state_of q) (devices_of q.vault) =
-      all plan before p q (acts_of ends.made) ends.made since ends.plays in
-      let same : q.plan ≡ plan = ends.plays.runs.plan ∙ since.begins.of_plan in
+      all plan before p q (acts_of ends.made) ends.made since refl ends.runs in
+      let same : q.plan ≡ plan = ends.runs.plan ∙ since.begins.of_plan in
       let put : AllArePut plan (state_of q) = all_put same ends.put in (
         ends.made,
         state_of q,

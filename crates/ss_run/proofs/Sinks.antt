@@ -1,16 +1,22 @@
 -- The sinks of a job that has come to its end.
-use Rattle.std.proofs.Common.{◌≡◌, ℕ, ◌<◌, List, [], ◌++◌, length, get_or, Option, Some, None, ap, ◌∙◌, arith}
+use Rattle.std.proofs.Common.{◌≡◌, ℕ, ◌<◌, ◌≤◌, ◌⊎◌, List, [], ◌++◌, length, get_or, map, Option, Some, None, refl, sym, ap, ◌∙◌, inl, inr, arith}
 use Rattle.std.specs.Prelude.{slice_get, option_and_then}
-use Rattle.std.proofs.lemmas.List.{append-nil, take_all}
+use Rattle.std.proofs.lemmas.Bool.{cases_lt}
+use Rattle.std.proofs.lemmas.List.{append-nil, get_or_past, take_all}
 use Rattle.std.proofs.lemmas.Option.{slice_get-get_or, slice_get_within}
 use Rattle.ss_elem.specs.Line.{text_of}
+use Rattle.ss_elem.specs.declared.element.Element.{Element}
 use Rattle.ss_fail.specs.declared.role.Role.{Role}
+use Rattle.ss_frames.specs.Laws.{PlanNumbersAreMeant, PlansAreRunnable}
 use Rattle.ss_frames.specs.Plans.{plan_numbers}
 use Rattle.ss_job.specs.JobText.{VertexText, source, inner, sink, sink_file_of_vertex}
 use Rattle.ss_job.specs.Sound.{IsVertex}
-use Rattle.ss_plan.specs.Plan.{PlanText}
+use Rattle.ss_meaning.specs.Laws.{MeaningByInputs}
+use Rattle.ss_meaning.specs.Meaning.{Vertex, Source, Inner, Sink, meaning, reads, stream, vertex as meant_vertex}
+use Rattle.ss_plan.specs.Plan.{PlanText, vertices_of}
 use Rattle.ss_state.specs.IsNumbers.{IsVertex as IsVertexNumbers}
 use Rattle.ss_state.specs.Numbers.{IsSink, IsStream, input, size, vertex}
+use Rattle.ss_state.specs.NumbersOfMeaning.{IsMeant, kind_of}
 use Rattle.ss_state.specs.State.{Ledger, row_at}
 use Rattle.ss_vault.specs.Facts.{PlanFacts}
 use Rattle.ss_vault.specs.Sound.{nothing_behind, sink_file, stream_put, text_put}
@@ -72,3 +78,33 @@ pub whole_text : (plan : PlanText) (l : Ledger) (k : ℕ) → (row_at l k).taken
 whole_text plan l k all =
     append-nil (text_put plan l k)
     ∙ ap text_of (take_all (row_at l k).taken (stream_put plan k) (omega (arith, all)))
+
+-- ---- what a sink puts is its own stream, as the job means it
+
+sink_stream : (w : Vertex) (streams : ℕ → List Element) → kind_of w ≡ kind.Sink → stream w (map streams (reads w)) ≡ streams (get_or (reads w) 0 0)
+sink_stream (Source list) streams e = absurd cc
+sink_stream (Inner form inputs) streams e = absurd cc
+sink_stream (Sink input) streams e = refl
+
+-- a vertex that isn't there is no sink
+sink_within : (job : List Vertex) (k : ℕ) → kind_of (meant_vertex job k) ≡ kind.Sink → k < length job
+sink_within job k e = by_tests (cases_lt k (length job))
+  where
+    past : length job ≤ k → kind_of (meant_vertex job k) ≡ kind.Source
+    past le = ap kind_of (get_or_past job k (Source []) le)
+
+    by_tests : (k < length job) ⊎ (length job ≤ k) → k < length job
+    by_tests (inl lt) = lt
+    by_tests (inr le) = absurd (let other = past le in cc)
+
+pub put_is_meant : MeaningByInputs → PlansAreRunnable → PlanNumbersAreMeant → (plan : PlanText) → PlanFacts plan → (k : ℕ)
+    → IsSink (plan_numbers plan) k → stream_put plan k ≡ meaning (vertices_of plan) k
+put_is_meant made runnable meant plan facts k is =
+    let job : List Vertex = vertices_of plan in
+    let count = facts.count in
+    let in_vertices = is.0 in
+    let means : IsMeant job k (vertex (plan_numbers plan) k) = (meant plan facts.is).meant k (omega (arith, count, in_vertices)) in
+    let is_sink : kind_of (meant_vertex job k) ≡ kind.Sink = sym means.kind ∙ is.1 in
+    ap (λ (ns : List ℕ). meaning job (get_or ns 0 0)) means.inputs
+    ∙ sym (sink_stream (meant_vertex job k) (meaning job) is_sink)
+    ∙ sym (made job (runnable plan facts.is).means k (sink_within job k is_sink))

@@ -1,6 +1,6 @@
 -- How it ends that a job that goes on is brought to its end.
-use Rattle.std.specs.Prelude.{Bool, List, [], Result, Ok, Err}
-use Rattle.ss_engine.specs.Plays.{PlaysAll, acts_of}
+use Rattle.std.specs.Prelude.{Bool, List, Result, Ok, Err}
+use Rattle.ss_engine.specs.Plays.{Runs, acts_of}
 use Rattle.ss_engine.specs.Told.{PlantTold, state_of}
 use Rattle.ss_fail.specs.declared.act.Act.{Act}
 use Rattle.ss_fail.specs.declared.trigger.Trigger.{Trigger}
@@ -17,7 +17,7 @@ use Rattle.ss_run.specs.declared.running.Told.{Told}
 pub record EndsWhole (p : PlantTold) (ts : List Trigger) (wants : Bool) (told : Told) (q : PlantTold) : Type 0 where
   pub made : List Made
   pub obey : Obeys (plan_numbers p.plan) ts (state_of p) (acts_of made)
-  pub plays : PlaysAll p (acts_of made) [] q made
+  pub runs : Runs p made q
   pub put : AllPut q
   pub tells : TellsRun q.plan wants made (state_of q) told
 

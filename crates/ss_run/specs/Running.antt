@@ -5,7 +5,8 @@ use Rattle.ss_engine.specs.Plays.{acts_of}
 use Rattle.ss_fail.specs.declared.act.Act.{Act}
 use Rattle.ss_fail.specs.declared.trigger.Trigger.{Trigger}
 use Rattle.ss_frames.specs.Plans.{plan_numbers}
-use Rattle.ss_plan.specs.Plan.{PlanText}
+use Rattle.ss_meaning.specs.Meaning.{meaning}
+use Rattle.ss_plan.specs.Plan.{PlanText, vertices_of}
 use Rattle.ss_play.specs.Playing.{AreMarks, Devices, Played, StopsPlaying}
 use Rattle.ss_play.specs.Report.{trace_lines}
 use Rattle.ss_play.specs.declared.fault.PlayFault.{PlayFault}
@@ -27,11 +28,11 @@ abbrev pub AllArePut : PlanText → State → Type 0
 AllArePut plan s =
     (k : ℕ) → IsSink (plan_numbers plan) k → (row_at s.vault.ledger k).taken ≡ length (stream_put plan k)
 
--- the file of each sink has the text of its whole stream, as far as it is told
+-- the file of each sink has the text of its whole stream, as the job means it, as far as it is told
 abbrev pub FilesAreWhole : PlanText → Devices → Type 0
 FilesAreWhole plan devices =
     (k : ℕ) (file : List ℕ) → sink_file plan k ≡ Some file
-    → IfSome (devices.outputs.bytes file) (λ bytes. bytes ≡ text_of (stream_put plan k))
+    → IfSome (devices.outputs.bytes file) (λ bytes. bytes ≡ text_of (meaning (vertices_of plan) k))
 
 -- a job was brought to its end, from its start over these devices on: such acts led to this state and these devices
 pub record Finished (plan : PlanText) (ts : List Trigger) (before : Devices) (made : List Made) (s : State)

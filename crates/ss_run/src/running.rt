@@ -1,4 +1,4 @@
-ghost use Rattle.std.specs.Prelude.{◌≡◌, All, IfErr, IfOk};
+ghost use Rattle.std.specs.Prelude.{◌≡◌, [], All, IfErr, IfOk, true};
 ghost use Rattle.std.specs.Arc.{arc_value};
 ghost use Rattle.std.specs.List.{AllByRecursion};
 ghost use Rattle.ss_engine.specs.Joint.{Joint};
@@ -7,7 +7,7 @@ ghost use Rattle.ss_engine.specs.Told.{plant_told, state_of};
 ghost use Rattle.ss_frames.specs.Plans.{plan_numbers};
 ghost use Rattle.ss_outside.specs.Depot.{no_contents};
 ghost use Rattle.ss_run.specs.Ending.{Ends};
-ghost use Rattle.ss_run.specs.Running.{EndsRunning, TellsRun, trace_wanted};
+ghost use Rattle.ss_run.specs.Running.{EndsRunning, TellsRun};
 ghost use Rattle.ss_serial.specs.Drives.{CanFire};
 ghost use Rattle.ss_serial.specs.Ends.{AllPut};
 ghost use Rattle.ss_state.specs.Rule.{IsTrigger};
@@ -17,6 +17,8 @@ ghost use Rattle.ss_vault.specs.Calls.{HaveNoBytes};
 use crate::summary::summary_of;
 use ss_engine::{Plant, Trace};
 use ss_fail::Trigger;
+use ss_frames::plans_have_numbers;
+use ss_meaning::meaning_is_made_of_the_inputs;
 use ss_outside::{Depot, Outputs};
 use ss_plan::Plan;
 use ss_play::{PlayFault, marks_of, plays_are_told, trace_of};
@@ -63,6 +65,8 @@ pub fn run_job<O: Outputs, D: Depot>(
         (record { outputs = O.told result.outputs; depot = D.told result.depot }) }
 {
     plays_are_told();
+    plans_have_numbers();
+    meaning_is_made_of_the_inputs();
     // What every plan keeps.
     plan_facts(&plan);
     match Plant::start(alloc, plan, depot, outputs) {
@@ -96,9 +100,9 @@ fn run_on<O: Outputs, D: Depot>(
     ensures ends { Ends (plant_told O.told D.told plant.old) triggers.now wants_trace
         result (plant_told O.told D.told plant.new) }
 {
-    let mut trace = Trace::new(alloc);
+    let mut trace = new_trace(alloc, wants_trace);
     match finish(plant, triggers, &mut trace) {
-        Ok(()) => match tell(alloc, plant, &trace, wants_trace) {
+        Ok(()) => match tell(alloc, plant, &trace) {
             Ok(told) => Ok(told),
             Err(_) => Err(PlayFault::Memory),
         },
@@ -106,20 +110,30 @@ fn run_on<O: Outputs, D: Depot>(
     }
 }
 
-/// Tells of a job at its end, on which these acts were made.
+/// A trace that keeps the acts to come only where they are wanted, so that no run holds what nobody will read.
+fn new_trace(alloc: Global, wants_trace: bool) -> Trace
+    ensures { result ≡ record { keeps = wants_trace; made = [] } }
+{
+    if wants_trace {
+        Trace::new(alloc)
+    } else {
+        Trace::without_acts(alloc)
+    }
+}
+
+/// Tells of a job at its end: a line for each act that the trace keeps, and what its sinks have put.
 fn tell<O: Outputs, D: Depot>(
     alloc: Global,
     plant: &Plant<O, D>,
     trace: &Trace,
-    wants_trace: bool,
 ) -> Result<Told, AllocError>
     requires joint { Joint (plant_told O.told D.told plant.now) }
     requires put { AllPut (plant_told O.told D.told plant.now) }
-    requires acts { All (MayAct (plan_numbers (plant_told O.told D.told plant.now).plan)) (acts_of trace.now) }
-    ensures { IfOk result (TellsRun (plant_told O.told D.told plant.now).plan wants_trace trace.now
+    requires acts { All (MayAct (plan_numbers (plant_told O.told D.told plant.now).plan)) (acts_of trace.now.made) }
+    ensures { IfOk result (TellsRun (plant_told O.told D.told plant.now).plan true trace.now.made
         (state_of (plant_told O.told D.told plant.now))) }
 {
-    let lines = wanted_trace(alloc, plant.plan(), trace, wants_trace)?;
+    let lines = trace_of(alloc, plant.plan(), trace)?;
     let summary = summary_of(alloc, plant)?;
     let marks = marks_of(alloc, plant)?;
     Ok(Told {
@@ -127,21 +141,4 @@ fn tell<O: Outputs, D: Depot>(
         summary,
         marks,
     })
-}
-
-/// The lines of the acts, where they are wanted.
-fn wanted_trace(
-    alloc: Global,
-    plan: &Plan,
-    trace: &Trace,
-    wants_trace: bool,
-) -> Result<Vec<u8>, AllocError>
-    requires { All (MayAct (plan_numbers plan.now)) (acts_of trace.now) }
-    ensures { IfOk result (λ text. text.items ≡ trace_wanted wants_trace plan.now trace.now) }
-{
-    if wants_trace {
-        trace_of(alloc, plan, trace)
-    } else {
-        Ok(Vec::new(alloc))
-    }
 }

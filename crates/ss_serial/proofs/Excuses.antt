@@ -6,7 +6,7 @@ use Rattle.ss_acts.specs.Faults.{Fails, made_by}
 use Rattle.ss_acts.specs.declared.fault.EngineFault.{EngineFault}
 use Rattle.ss_acts.specs.declared.fault.EngineFault.TheVariants as fault
 use Rattle.ss_engine.specs.Applies.{CanMeet, IsCause, IsFullAt}
-use Rattle.ss_engine.specs.Plays.{PlaysUpTo, StopsAt}
+use Rattle.ss_engine.specs.Plays.{PlaysUpTo, StopsAt, TraceTold}
 use Rattle.ss_engine.specs.Told.{PlantTold, state_of}
 use Rattle.ss_fail.specs.declared.act.Act.{Act}
 use Rattle.ss_fail.specs.declared.act.Act.TheVariants as act
@@ -15,7 +15,7 @@ use Rattle.ss_outside.specs.Faults.{Rose}
 use Rattle.ss_plan.specs.Plan.{PlanText}
 use Rattle.ss_state.specs.Numbers.{VertexNumbers, JobNumbers, out, size, sum_of, vertex}
 use Rattle.ss_state.specs.State.{InstNumbers}
-use Rattle.ss_state.specs.Step.{Made, has_passed, read_at}
+use Rattle.ss_state.specs.Step.{has_passed, read_at}
 use Rattle.ss_state.specs.declared.entry.Entry.{Entry}
 use Rattle.ss_vault.specs.Counts.{NoneFell}
 use Rattle.ss_vault.specs.Told.{counts_of}
@@ -100,7 +100,7 @@ excused_before p q r (fault.Full v reached) same halted fell is =
     same is
 excused_before p q r fault.Memory same halted fell is = tt
 
-pub excuses : (p q : PlantTold) (acts : List Act) (before after : List Made) (f : EngineFault) → PlaysUpTo p acts before f q after
+pub excuses : (p q : PlantTold) (acts : List Act) (before after : TraceTold) (f : EngineFault) → PlaysUpTo p acts before f q after
     → IsExcuse p f q
 excuses p q acts before after f plays =
     excused_before p plays.between q f plays.runs.plan plays.runs.goes.halted plays.runs.goes.counts

@@ -7,7 +7,7 @@ use Rattle.std.proofs.lemmas.List.{append-nil, take_more, take-append-drop}
 use Rattle.std.proofs.lemmas.Option.{slice_get-get_or}
 use Rattle.ss_acts.specs.declared.fault.EngineFault.{EngineFault}
 use Rattle.ss_engine.specs.Joint.{Joint}
-use Rattle.ss_engine.specs.Plays.{PlaysAll, PlaysUpTo}
+use Rattle.ss_engine.specs.Plays.{PlaysAll, PlaysUpTo, TraceTold}
 use Rattle.ss_engine.specs.PlaysOne.{MakesOne, StopsAtOne}
 use Rattle.ss_engine.specs.Told.{PlantTold}
 use Rattle.ss_fail.specs.declared.act.Act.{Act}
@@ -16,7 +16,6 @@ use Rattle.ss_fail.specs.declared.outcome.Outcome.{Outcome}
 use Rattle.ss_fail.specs.declared.trigger.Trigger.{Trigger}
 use Rattle.ss_manager.specs.Fired.{IsNextFired, NoneFires, fires}
 use Rattle.ss_state.specs.Rule.{acts_at}
-use Rattle.ss_state.specs.Step.{Made}
 use Rattle.ss_serial.proofs.Runs.{one_made, one_stopped, plays_then}
 
 -- those of the first n triggers
@@ -102,7 +101,7 @@ all_fired ts i v count h none =
 
 -- ---- on a job
 
-pub plays_fired : (p q r : PlantTold) (ts : List Trigger) (i j v count : ℕ) (o : Outcome) (before mid after : List Made) → IsNextFired ts i v count j
+pub plays_fired : (p q r : PlantTold) (ts : List Trigger) (i j v count : ℕ) (o : Outcome) (before mid after : TraceTold) → IsNextFired ts i v count j
     → PlaysAll p (acts_up_to ts i v count) before q mid → MakesOne q (get_or ts j no_trigger).act mid o r after
     → PlaysAll p (acts_up_to ts (j + 1) v count) before r after
 plays_fired p q r ts i j v count o before mid after is plays one =
@@ -110,7 +109,7 @@ plays_fired p q r ts i j v count o before mid after is plays one =
     subst (λ (xs : List Act). PlaysAll p xs before r after) (sym (fired_at ts i j v count is))
     (plays_then p q r (acts_up_to ts i v count) (a ∷ []) before mid after (Ok tt) plays (one_made q r a o mid after one))
 
-pub plays_failed : (p q r : PlantTold) (ts : List Trigger) (i j v count : ℕ) (f : EngineFault) (before mid after : List Made) → IsNextFired ts i v count j
+pub plays_failed : (p q r : PlantTold) (ts : List Trigger) (i j v count : ℕ) (f : EngineFault) (before mid after : TraceTold) → IsNextFired ts i v count j
     → PlaysAll p (acts_up_to ts i v count) before q mid → Joint q → StopsAtOne q (get_or ts j no_trigger).act mid f r after
     → PlaysUpTo p (acts_at ts v count) before f r after
 plays_failed p q r ts i j v count f before mid after is plays joint one =
@@ -124,7 +123,7 @@ plays_failed p q r ts i j v count f before mid after is plays joint one =
     subst (λ (xs : List Act). PlaysUpTo p xs before f r after) all
     (plays_then p q r (acts_up_to ts i v count) (a ∷ rest) before mid after (Err f) plays (one_stopped q r a rest f mid after joint one))
 
-pub plays_all_fired : (p q : PlantTold) (ts : List Trigger) (i v count : ℕ) (before after : List Made) → i ≤ length ts → NoneFires ts i v count
+pub plays_all_fired : (p q : PlantTold) (ts : List Trigger) (i v count : ℕ) (before after : TraceTold) → i ≤ length ts → NoneFires ts i v count
     → PlaysAll p (acts_up_to ts i v count) before q after → PlaysAll p (acts_at ts v count) before q after
 plays_all_fired p q ts i v count before after h none plays =
     subst (λ (xs : List Act). PlaysAll p xs before q after) (all_fired ts i v count h none) plays

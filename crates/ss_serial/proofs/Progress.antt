@@ -4,7 +4,7 @@ use Rattle.std.specs.Prelude.{◌≢◌, ◌+◌, ◌||◌, IfOk}
 use Rattle.std.proofs.lemmas.Bool.{cases_eq, cases_lt}
 use Rattle.ss_acts.specs.declared.fault.EngineFault.{EngineFault}
 use Rattle.ss_engine.specs.Joint.{Joint}
-use Rattle.ss_engine.specs.Plays.{PlaysAll}
+use Rattle.ss_engine.specs.Plays.{PlaysAll, TraceTold}
 use Rattle.ss_engine.specs.Told.{PlantTold, state_of}
 use Rattle.ss_fail.specs.declared.act.Act.{Act}
 use Rattle.ss_fail.specs.declared.trigger.Trigger.{Trigger}
@@ -16,7 +16,7 @@ use Rattle.ss_state.specs.Numbers.{IsSink, IsStream, input, vertex}
 use Rattle.ss_state.specs.Rule.{Obeys}
 use Rattle.ss_rounds.specs.Whole as whole
 use Rattle.ss_state.specs.State.{State, tail_at}
-use Rattle.ss_state.specs.Step.{Made, run}
+use Rattle.ss_state.specs.Step.{run}
 use Rattle.ss_serial.specs.Drives.{CanFire, Drives}
 use Rattle.ss_serial.specs.Headway.{Advances, Headway, Lowers}
 use Rattle.ss_serial.specs.Stored.{GivesStream, IsPut, IsStored, PutBelow, StoredBelow, TakesStream, has_batch, job_of, stream_put, vertex_count}
@@ -25,7 +25,7 @@ use Rattle.ss_serial.proofs.Runs.{plays_none, plays_then, run_ends}
 
 -- ---- what is said of the plan goes on
 
-pub drives_plan : (ts : List Trigger) (p q : PlantTold) (before after : List Made) → Drives ts p before (Ok tt) q after → q.plan ≡ p.plan
+pub drives_plan : (ts : List Trigger) (p q : PlantTold) (before after : TraceTold) → Drives ts p before (Ok tt) q after → q.plan ≡ p.plan
 drives_plan ts p q before after drives = drives.plays.runs.plan
 
 pub fires_on : (p q : PlantTold) (ts : List Trigger) → q.plan ≡ p.plan → CanFire p ts → CanFire q ts
@@ -33,16 +33,16 @@ fires_on p q ts same can = subst (λ (plan : PlanText). CanFire (record p { plan
 
 -- ---- one behind another
 
-pub drives_none : (ts : List Trigger) (p : PlantTold) (before : List Made) → Drives ts p before (Ok tt) p before
+pub drives_none : (ts : List Trigger) (p : PlantTold) (before : TraceTold) → Drives ts p before (Ok tt) p before
 drives_none ts p before = record { acts = []; obey = tt; plays = plays_none p before }
 
-pub all_end : (p q : PlantTold) (acts : List Act) (before after : List Made) → PlaysAll p acts before q after
+pub all_end : (p q : PlantTold) (acts : List Act) (before after : TraceTold) → PlaysAll p acts before q after
     → (run (plan_numbers p.plan) (state_of p) acts).state ≡ state_of q
 all_end p q acts before after plays =
     subst (λ (xs : List Act). (run (plan_numbers p.plan) (state_of p) xs).state ≡ state_of q) plays.are
     (run_ends (plan_numbers p.plan) (state_of p) (state_of q) plays.made plays.runs.run)
 
-pub drives_then : (ts : List Trigger) (p q r : PlantTold) (before mid after : List Made) (result : Result (Unit {0}) EngineFault)
+pub drives_then : (ts : List Trigger) (p q r : PlantTold) (before mid after : TraceTold) (result : Result (Unit {0}) EngineFault)
     → Drives ts p before (Ok tt) q mid → Drives ts q mid result r after → Drives ts p before result r after
 drives_then ts p q r before mid after result first second =
     let same : q.plan ≡ p.plan = first.plays.runs.plan in
@@ -55,7 +55,7 @@ drives_then ts p q r before mid after result first second =
       plays = plays_then p q r first.acts second.acts before mid after result first.plays second.plays;
     }
 
-pub headway_none : (ts : List Trigger) (p : PlantTold) (before : List Made) → Headway ts p before false p before
+pub headway_none : (ts : List Trigger) (p : PlantTold) (before : TraceTold) → Headway ts p before false p before
 headway_none ts p before = record { drives = drives_none ts p before; lower = λ e. absurd cc; same = λ e. refl }
 
 -- the total of q by the numbers of p's plan
@@ -69,7 +69,7 @@ total_same : (ts : List Trigger) (p q r : PlantTold) → state_of r ≡ state_of
     → total_left (plan_numbers p.plan) ts (state_of r) ≡ total_left (plan_numbers p.plan) ts (state_of q)
 total_same ts p q r same = ap (total_left (plan_numbers p.plan) ts) same
 
-then_lower : (ts : List Trigger) (p q r : PlantTold) (before mid after : List Made) (a b : Bool)
+then_lower : (ts : List Trigger) (p q r : PlantTold) (before mid after : TraceTold) (a b : Bool)
     → Headway ts p before a q mid → Headway ts q mid b r after → (a || b) ≡ true
     → total_left (plan_numbers p.plan) ts (state_of r) < total_left (plan_numbers p.plan) ts (state_of p)
 then_lower ts p q r before mid after true true first second e =
@@ -88,13 +88,13 @@ then_lower ts p q r before mid after false true first second e =
     omega (arith, one, two)
 then_lower ts p q r before mid after false false first second e = absurd cc
 
-then_same : (ts : List Trigger) (p q r : PlantTold) (before mid after : List Made) (a b : Bool)
+then_same : (ts : List Trigger) (p q r : PlantTold) (before mid after : TraceTold) (a b : Bool)
     → Headway ts p before a q mid → Headway ts q mid b r after → (a || b) ≡ false → state_of r ≡ state_of p
 then_same ts p q r before mid after true b first second e = absurd cc
 then_same ts p q r before mid after false true first second e = absurd cc
 then_same ts p q r before mid after false false first second e = second.same refl ∙ first.same refl
 
-pub headway_then : (ts : List Trigger) (p q r : PlantTold) (before mid after : List Made) (a b : Bool)
+pub headway_then : (ts : List Trigger) (p q r : PlantTold) (before mid after : TraceTold) (a b : Bool)
     → Headway ts p before a q mid → Headway ts q mid b r after → Headway ts p before (a || b) r after
 headway_then ts p q r before mid after a b first second = record {
   drives = drives_then ts p q r before mid after (Ok tt) first.drives second.drives;
@@ -122,19 +122,19 @@ or_true true = refl
 or_true false = refl
 
 -- a step more that brought the job forward
-pub headway_more : (ts : List Trigger) (p q r : PlantTold) (before mid after : List Made) (a : Bool)
+pub headway_more : (ts : List Trigger) (p q r : PlantTold) (before mid after : TraceTold) (a : Bool)
     → Headway ts p before a q mid → Headway ts q mid true r after → Headway ts p before true r after
 headway_more ts p q r before mid after a first second =
     subst (λ (b : Bool). Headway ts p before b r after) (or_true a) (headway_then ts p q r before mid after a true first second)
 
 -- and one that left it as it was
-pub headway_last : (ts : List Trigger) (p q r : PlantTold) (before mid after : List Made) (a b : Bool) → b ≡ false
+pub headway_last : (ts : List Trigger) (p q r : PlantTold) (before mid after : TraceTold) (a b : Bool) → b ≡ false
     → Headway ts p before a q mid → Headway ts q mid b r after → Headway ts p before a r after
 headway_last ts p q r before mid after a b e first second =
     subst (λ (x : Bool). Headway ts p before x r after) (ap (λ (y : Bool). a || y) e ∙ or_right a)
     (headway_then ts p q r before mid after a b first second)
 
-pub headway_as : (ts : List Trigger) (p q : PlantTold) (before after : List Made) (a b : Bool) → a ≡ b → Headway ts p before a q after
+pub headway_as : (ts : List Trigger) (p q : PlantTold) (before after : TraceTold) (a b : Bool) → a ≡ b → Headway ts p before a q after
     → Headway ts p before b q after
 headway_as ts p q before after a b e headway = subst (λ (x : Bool). Headway ts p before x q after) e headway
 
@@ -191,7 +191,7 @@ lower_in ts p q r same lower = lower_by ts p q r same lower
 
 -- ---- one vertex behind others
 
-pub turned : (ts : List Trigger) (p r : PlantTold) (v : ℕ) (before after : List Made) (result : Result Bool EngineFault)
+pub turned : (ts : List Trigger) (p r : PlantTold) (v : ℕ) (before after : TraceTold) (result : Result Bool EngineFault)
     → Advances ts p before result r after → IfOk result (λ moved. moved ≡ false → StoredBelow p v → IsStored r v)
     → IfOk result (λ moved. moved ≡ false → StoredBelow p v → StoredBelow r (v + 1))
 turned ts p r v before after (Ok moved) went stored = λ e below.
@@ -213,7 +213,7 @@ put_is_stored p k joint takes below =
     let is = put_stream p k joint takes in
     below (stream_put p k) is.0 is.1
 
-pub took : (ts : List Trigger) (p r : PlantTold) (k : ℕ) (before after : List Made) (result : Result Bool EngineFault) → Joint p → TakesStream p k
+pub took : (ts : List Trigger) (p r : PlantTold) (k : ℕ) (before after : TraceTold) (result : Result Bool EngineFault) → Joint p → TakesStream p k
     → Advances ts p before result r after → IfOk result (λ moved. moved ≡ false → IsStored p (stream_put p k) → IsPut r k)
     → IfOk result (λ moved. moved ≡ false → StoredBelow p (vertex_count p) → PutBelow p k → PutBelow r (k + 1))
 took ts p r k before after (Ok moved) joint takes went put = λ e stored below.
@@ -226,7 +226,7 @@ all_stored_on p q same state below =
 
 -- ---- a step behind one that leaves the job as it was
 
-pub lowers_behind : (ts : List Trigger) (p q r : PlantTold) (before mid after : List Made) (result : Result (Unit {0}) EngineFault)
+pub lowers_behind : (ts : List Trigger) (p q r : PlantTold) (before mid after : TraceTold) (result : Result (Unit {0}) EngineFault)
     → Headway ts p before false q mid → Lowers ts q mid result r after → Lowers ts p before result r after
 lowers_behind ts p q r before mid after (Ok done) first second = headway_more ts p q r before mid after false first second
 lowers_behind ts p q r before mid after (Err f) first second = drives_then ts p q r before mid after (Err f) first.drives second

@@ -1,10 +1,10 @@
 -- Acts that were made one list behind another.
-use Rattle.std.proofs.Common.{◌≡◌, ◌∙◌, List, [], ◌∷◌, ◌++◌, Result, Ok, Err, map, refl, sym, ap, subst, arith, append_assoc}
+use Rattle.std.proofs.Common.{◌≡◌, ◌∙◌, Bool, true, false, List, [], ◌∷◌, ◌++◌, Result, Ok, Err, map, refl, sym, ap, subst, arith, append_assoc}
 use Rattle.std.proofs.lemmas.List.{append-nil, map-append}
 use Rattle.ss_acts.specs.Leaves.{Goes, PutsToSinksAlone}
 use Rattle.ss_acts.specs.declared.fault.EngineFault.{EngineFault}
 use Rattle.ss_engine.specs.Joint.{Joint}
-use Rattle.ss_engine.specs.Plays.{Plays, PlaysAll, PlaysUpTo, Runs, acts_of}
+use Rattle.ss_engine.specs.Plays.{Plays, PlaysAll, PlaysUpTo, Runs, TraceTold, acts_of, with_made}
 use Rattle.ss_engine.specs.PlaysOne.{MakesOne, StopsAtOne}
 use Rattle.ss_engine.specs.Told.{PlantTold, state_of}
 use Rattle.ss_fail.specs.declared.act.Act.{Act}
@@ -54,6 +54,26 @@ run_then job s mid end made more ran ran_more =
     ∙ ap (λ (os : List Outcome). outcomes_of made ++ os) (ap (λ (r : Ran). r.outcomes) behind)
     ∙ sym (map-append (λ (m : Made). m.outcome) made more))
 
+-- ---- traces
+
+abbrev told_so : Bool → List Made → TraceTold
+told_so keeps made = record { keeps = keeps; made = made }
+
+with_none_so : (keeps : Bool) (made : List Made) → with_made (told_so keeps made) [] ≡ told_so keeps made
+with_none_so true made = ap (told_so true) (append-nil made)
+with_none_so false made = refl
+
+with_more_so : (keeps : Bool) (made xs ys : List Made)
+    → with_made (with_made (told_so keeps made) xs) ys ≡ with_made (told_so keeps made) (xs ++ ys)
+with_more_so true made xs ys = ap (told_so true) (append_assoc made xs ys)
+with_more_so false made xs ys = refl
+
+with_none : (trace : TraceTold) → with_made trace [] ≡ trace
+with_none trace = with_none_so trace.keeps trace.made
+
+with_more : (trace : TraceTold) (xs ys : List Made) → with_made (with_made trace xs) ys ≡ with_made trace (xs ++ ys)
+with_more trace xs ys = with_more_so trace.keeps trace.made xs ys
+
 -- ---- lists of acts on a job
 
 goes_same : (s : VaultTold) → Goes s s
@@ -82,26 +102,26 @@ runs_then p q r made more first second = record {
 runs_none : (p : PlantTold) → Runs p [] p
 runs_none p = record { plan = refl; run = refl; goes = goes_same p.vault; outputs = λ name h. refl }
 
-pub plays_none : (p : PlantTold) (before : List Made) → PlaysAll p [] before p before
+pub plays_none : (p : PlantTold) (before : TraceTold) → PlaysAll p [] before p before
 plays_none p before = record {
   made = [];
   are = refl;
-  trace = sym (append-nil before);
+  trace = sym (with_none before);
   runs = runs_none p;
 }
 
-all_then : (p q r : PlantTold) (xs ys : List Act) (before mid after : List Made) → PlaysAll p xs before q mid → PlaysAll q ys mid r after
+all_then : (p q r : PlantTold) (xs ys : List Act) (before mid after : TraceTold) → PlaysAll p xs before q mid → PlaysAll q ys mid r after
     → PlaysAll p (xs ++ ys) before r after
 all_then p q r xs ys before mid after first second = record {
   made = first.made ++ second.made;
   are = map-append (λ (m : Made). m.act) first.made second.made
       ∙ ap (λ (zs : List Act). zs ++ acts_of second.made) first.are
       ∙ ap (λ (zs : List Act). xs ++ zs) second.are;
-  trace = second.trace ∙ ap (λ (ms : List Made). ms ++ second.made) first.trace ∙ append_assoc before first.made second.made;
+  trace = second.trace ∙ ap (λ (t : TraceTold). with_made t second.made) first.trace ∙ with_more before first.made second.made;
   runs = runs_then p q r first.made second.made first.runs second.runs;
 }
 
-up_to_then : (p q r : PlantTold) (xs ys : List Act) (before mid after : List Made) (f : EngineFault) → PlaysAll p xs before q mid
+up_to_then : (p q r : PlantTold) (xs ys : List Act) (before mid after : TraceTold) (f : EngineFault) → PlaysAll p xs before q mid
     → PlaysUpTo q ys mid f r after → PlaysUpTo p (xs ++ ys) before f r after
 up_to_then p q r xs ys before mid after f first second = record {
   made = first.made ++ second.made;
@@ -111,7 +131,7 @@ up_to_then p q r xs ys before mid after f first second = record {
       ∙ ap (λ (zs : List Act). acts_of first.made ++ zs) second.are
       ∙ sym (append_assoc (acts_of first.made) (acts_of second.made) (second.next ∷ second.rest))
       ∙ ap (λ (zs : List Act). zs ++ second.next ∷ second.rest) (sym (map-append (λ (m : Made). m.act) first.made second.made));
-  trace = second.trace ∙ ap (λ (ms : List Made). ms ++ second.made) first.trace ∙ append_assoc before first.made second.made;
+  trace = second.trace ∙ ap (λ (t : TraceTold). with_made t second.made) first.trace ∙ with_more before first.made second.made;
   between = second.between;
   runs = runs_then p q second.between first.made second.made first.runs second.runs;
   joint = second.joint;
@@ -121,14 +141,14 @@ up_to_then p q r xs ys before mid after f first second = record {
 }
 
 -- some acts, and then others up to the first fault
-pub plays_then : (p q r : PlantTold) (xs ys : List Act) (before mid after : List Made) (result : Result (Unit {0}) EngineFault)
+pub plays_then : (p q r : PlantTold) (xs ys : List Act) (before mid after : TraceTold) (result : Result (Unit {0}) EngineFault)
     → PlaysAll p xs before q mid → Plays q ys mid result r after → Plays p (xs ++ ys) before result r after
 plays_then p q r xs ys before mid after (Ok done) first second = all_then p q r xs ys before mid after first second
 plays_then p q r xs ys before mid after (Err f) first second = up_to_then p q r xs ys before mid after f first second
 
 -- ---- one act
 
-pub one_made : (p q : PlantTold) (a : Act) (o : Outcome) (before after : List Made) → MakesOne p a before o q after
+pub one_made : (p q : PlantTold) (a : Act) (o : Outcome) (before after : TraceTold) → MakesOne p a before o q after
     → PlaysAll p (a ∷ []) before q after
 one_made p q a o before after one = record {
   made = record { act = a; outcome = o } ∷ [];
@@ -142,14 +162,14 @@ one_made p q a o before after one = record {
   };
 }
 
-pub one_stopped : (p q : PlantTold) (a : Act) (rest : List Act) (f : EngineFault) (before after : List Made) → Joint p → StopsAtOne p a before f q after
+pub one_stopped : (p q : PlantTold) (a : Act) (rest : List Act) (f : EngineFault) (before after : TraceTold) → Joint p → StopsAtOne p a before f q after
     → PlaysUpTo p (a ∷ rest) before f q after
 one_stopped p q a rest f before after joint one = record {
   made = [];
   next = a;
   rest = rest;
   are = refl;
-  trace = one.trace ∙ sym (append-nil before);
+  trace = one.trace ∙ sym (with_none before);
   between = p;
   runs = runs_none p;
   joint = joint;

@@ -4,6 +4,7 @@ use Rattle.std.proofs.lemmas.Bool.{cond_both, both_ways, eqb-true, le-ltb}
 use Rattle.ss_acts.specs.declared.fault.EngineFault.{EngineFault}
 use Rattle.ss_engine.specs.Applies.{Makes}
 use Rattle.ss_engine.specs.Joint.{Joint}
+use Rattle.ss_engine.specs.Plays.{TraceTold}
 use Rattle.ss_engine.specs.PlaysOne.{MakesOne, StopsAtOne}
 use Rattle.ss_engine.specs.Told.{PlantTold, state_of}
 use Rattle.ss_fail.specs.declared.act.Act.{Act}
@@ -21,7 +22,7 @@ use Rattle.ss_state.specs.Numbers.{JobNumbers, IsSink, input, size, vertex}
 use Rattle.ss_state.specs.NumbersOfMeaning.{job_numbers}
 use Rattle.ss_state.specs.Rule.{ByRule, Obeys, ObeysFrom, due_after, ruled}
 use Rattle.ss_state.specs.State.{State, durable_at, tail_at}
-use Rattle.ss_state.specs.Step.{Made, MayAct, Step, step}
+use Rattle.ss_state.specs.Step.{MayAct, Step, step}
 use Rattle.ss_state.specs.Tails.{batch_from, batch_len}
 use Rattle.ss_serial.specs.Drives.{Drives}
 use Rattle.ss_serial.specs.Headway.{Headway}
@@ -35,11 +36,11 @@ step_state p q a o makes = ap (λ (d : Step). d.state) makes.step
 pub step_outcome : (p q : PlantTold) (a : Act) (o : Outcome) → Makes p a q o → (step (job_of p) (state_of p) a).outcome ≡ o
 step_outcome p q a o makes = ap (λ (d : Step). d.outcome) makes.step
 
-pub one_drives : (ts : List Trigger) (p q : PlantTold) (a : Act) (o : Outcome) (before after : List Made)
+pub one_drives : (ts : List Trigger) (p q : PlantTold) (a : Act) (o : Outcome) (before after : TraceTold)
     → Obeys (job_of p) ts (state_of p) (a ∷ []) → MakesOne p a before o q after → Drives ts p before (Ok tt) q after
 one_drives ts p q a o before after obey one = record { acts = a ∷ []; obey = obey; plays = one_made p q a o before after one }
 
-pub one_fails : (ts : List Trigger) (p q : PlantTold) (a : Act) (f : EngineFault) (before after : List Made)
+pub one_fails : (ts : List Trigger) (p q : PlantTold) (a : Act) (f : EngineFault) (before after : TraceTold)
     → Obeys (job_of p) ts (state_of p) (a ∷ []) → Joint p → StopsAtOne p a before f q after → Drives ts p before (Err f) q after
 one_fails ts p q a f before after obey joint one = record { acts = a ∷ []; obey = obey; plays = one_stopped p q a [] f before after joint one }
 
@@ -86,7 +87,7 @@ alone_lower lower ts p q v a o joint stream busy next makes moved =
     (lower (job_of p) ts (state_of p) v joint.numbers stream busy (ap is_wait (ruled_outcome p q v a o next makes) ∙ moved))
 
 alone_headway : RuledActsLowerTheTotal → WaitsChangeNothing → (ts : List Trigger) (p q : PlantTold) (v : ℕ) (a : Act) (o : Outcome)
-    (before after : List Made) → Joint p → GivesStream p v → is_idle p v ≡ false → a ≡ next_of p v → is_write a ≡ false
+    (before after : TraceTold) → Joint p → GivesStream p v → is_idle p v ≡ false → a ≡ next_of p v → is_write a ≡ false
     → MakesOne p a before o q after → Headway ts p before (not (is_wait o)) q after
 alone_headway lower still ts p q v a o before after joint stream busy next none one = record {
   drives = one_drives ts p q a o before after (alone_obeys ts p v a joint stream next none) one;
@@ -96,7 +97,7 @@ alone_headway lower still ts p q v a o before after joint stream busy next none 
 }
 
 pub alone_advances : RuledActsLowerTheTotal → WaitsChangeNothing → (ts : List Trigger) (p q : PlantTold) (v : ℕ) (a : Act) (o : Outcome) (waits : Bool)
-    (before after : List Made) → Joint p → GivesStream p v → is_idle p v ≡ false → a ≡ next_of p v → is_write a ≡ false → waits ≡ is_wait o
+    (before after : TraceTold) → Joint p → GivesStream p v → is_idle p v ≡ false → a ≡ next_of p v → is_write a ≡ false → waits ≡ is_wait o
     → MakesOne p a before o q after → Headway ts p before (not waits) q after
 alone_advances lower still ts p q v a o waits before after joint stream busy next none is one =
     subst (λ (b : Bool). Headway ts p before (not b) q after) (sym is)
@@ -127,7 +128,7 @@ took_there job s k joint sink there =
 pub take_obeys : (ts : List Trigger) (p : PlantTold) (k : ℕ) → TakesStream p k → Obeys (job_of p) ts (state_of p) (act.Take k ∷ [])
 take_obeys ts p k sink = (sink, tt, tt)
 
-pub take_lowers : TakesLowerTheTotal → (ts : List Trigger) (p q : PlantTold) (k : ℕ) (o : Outcome) (before after : List Made) → Joint p → TakesStream p k
+pub take_lowers : TakesLowerTheTotal → (ts : List Trigger) (p q : PlantTold) (k : ℕ) (o : Outcome) (before after : TraceTold) → Joint p → TakesStream p k
     → has_line p k ≡ true → MakesOne p (act.Take k) before o q after → Headway ts p before true q after
 take_lowers lower ts p q k o before after joint sink there one = record {
   drives = one_drives ts p q (act.Take k) o before after (take_obeys ts p k sink) one;
@@ -141,7 +142,7 @@ take_lowers lower ts p q k o before after joint sink there one = record {
 pub flush_obeys : (ts : List Trigger) (p : PlantTold) (v : ℕ) → GivesStream p v → Obeys (job_of p) ts (state_of p) (act.Flush v 64 ∷ [])
 flush_obeys ts p v stream = ((stream, omega arith, omega arith), tt, tt)
 
-pub flush_lowers : FlushesLowerTheTotal → (ts : List Trigger) (p q : PlantTold) (v : ℕ) (o : Outcome) (before after : List Made) → Joint p
+pub flush_lowers : FlushesLowerTheTotal → (ts : List Trigger) (p q : PlantTold) (v : ℕ) (o : Outcome) (before after : TraceTold) → Joint p
     → GivesStream p v → has_batch p v ≡ true → is_pass_due o ≡ false → MakesOne p (act.Flush v 64) before o q after
     → Headway ts p before true q after
 flush_lowers lower ts p q v o before after joint stream batch due one =
@@ -156,7 +157,7 @@ flush_lowers lower ts p q v o before after joint stream batch due one =
     }
 
 -- one that is told that a pass is due leaves the job as it was
-pub flush_waits : DueFlushesChangeNothing → (ts : List Trigger) (p q : PlantTold) (v : ℕ) (o : Outcome) (before after : List Made) → Joint p
+pub flush_waits : DueFlushesChangeNothing → (ts : List Trigger) (p q : PlantTold) (v : ℕ) (o : Outcome) (before after : TraceTold) → Joint p
     → GivesStream p v → is_pass_due o ≡ true → MakesOne p (act.Flush v 64) before o q after → Headway ts p before false q after
 flush_waits still ts p q v o before after joint stream due one = record {
   drives = one_drives ts p q (act.Flush v 64) o before after (flush_obeys ts p v stream) one;

@@ -6,7 +6,7 @@ use Rattle.std.proofs.lemmas.Bool.{cond_both, cond-true, cond-false}
 use Rattle.ss_acts.specs.declared.fault.EngineFault.{EngineFault}
 use Rattle.ss_engine.specs.Applies.{Makes}
 use Rattle.ss_engine.specs.Joint.{Joint}
-use Rattle.ss_engine.specs.Plays.{Plays, PlaysAll}
+use Rattle.ss_engine.specs.Plays.{Plays, PlaysAll, TraceTold}
 use Rattle.ss_engine.specs.PlaysOne.{MakesOne, StopsAtOne}
 use Rattle.ss_engine.specs.Told.{PlantTold, state_of}
 use Rattle.ss_fail.specs.declared.act.Act.{Act}
@@ -23,7 +23,7 @@ use Rattle.ss_state.specs.Laws.{ActsKeepJoint}
 use Rattle.ss_state.specs.Numbers.{JobNumbers, vertex}
 use Rattle.ss_state.specs.Rule.{ByRule, IsFailure, IsTrigger, Obeys, acts_at, due_after, is_stored, ruled}
 use Rattle.ss_state.specs.State.{State, inst_at, tail_at}
-use Rattle.ss_state.specs.Step.{Made, MayAct, is_full, run, step}
+use Rattle.ss_state.specs.Step.{MayAct, is_full, run, step}
 use Rattle.ss_serial.specs.Drives.{CanFire, Drives}
 use Rattle.ss_serial.specs.Headway.{Headway, Lowers}
 use Rattle.ss_serial.specs.Stored.{GivesStream, is_idle, is_write, job_of, next_of}
@@ -67,7 +67,7 @@ write_lower lower ts p q v o joint stream busy next makes =
     (sym (ap is_wait (step_outcome p q (act.Write v 0) o makes))
     ∙ write_waits (vertex (job_of p) v) (inst_at (state_of p) v 0) (tail_at (state_of p) v))
 
-pub write_alone : RuledActsLowerTheTotal → (ts : List Trigger) (p q : PlantTold) (v : ℕ) (o : Outcome) (before after : List Made) → Joint p
+pub write_alone : RuledActsLowerTheTotal → (ts : List Trigger) (p q : PlantTold) (v : ℕ) (o : Outcome) (before after : TraceTold) → Joint p
     → GivesStream p v → CanFire p ts → is_idle p v ≡ false → is_write (next_of p v) ≡ true → is_stored o ≡ false
     → MakesOne p (act.Write v 0) before o q after → Headway ts p before true q after
 write_alone lower ts p q v o before after joint stream can busy next none one = record {
@@ -79,7 +79,7 @@ write_alone lower ts p q v o before after joint stream can busy next none one = 
   same = λ e. absurd cc;
 }
 
-pub write_fails : (ts : List Trigger) (p q : PlantTold) (v : ℕ) (f : EngineFault) (before after : List Made) → Joint p → GivesStream p v
+pub write_fails : (ts : List Trigger) (p q : PlantTold) (v : ℕ) (f : EngineFault) (before after : TraceTold) → Joint p → GivesStream p v
     → CanFire p ts → is_write (next_of p v) ≡ true → StopsAtOne p (act.Write v 0) before f q after → Drives ts p before (Err f) q after
 write_fails ts p q v f before after joint stream can next one = record {
   acts = act.Write v 0 ∷ due ts p v;
@@ -124,7 +124,7 @@ left_same : (s : State) → LeftByFailures s s
 left_same s = record { stored = λ u. refl; seen = λ u. refl; row = λ u. refl }
 
 -- the state behind the failures that were made
-fired_left : FailuresLeaveTheRest → ActsKeepJoint → (ts : List Trigger) (p q r : PlantTold) (v count : ℕ) (mid after : List Made) → CanFire p ts
+fired_left : FailuresLeaveTheRest → ActsKeepJoint → (ts : List Trigger) (p q r : PlantTold) (v count : ℕ) (mid after : TraceTold) → CanFire p ts
     → q.plan ≡ p.plan → Joint q → PlaysAll q (acts_at ts v count) mid r after → LeftByFailures (state_of q) (state_of r)
 fired_left rest keep ts p q r v count mid after can same joint plays =
     let listed_here : AllByRecursion (IsListed (plan_numbers q.plan)) (acts_at ts v count) =
@@ -137,7 +137,7 @@ not_empty a xs e = absurd cc
 
 -- with no failure the state is that behind the write, and with some less is left than before it
 lower_by_due : RuledActsLowerTheTotal → FiredFailuresLowerTheTotal → (ts : List Trigger) (p q r : PlantTold) (v : ℕ) (o : Outcome)
-    (xs : List Act) (mid after : List Made) → Joint p → GivesStream p v → CanFire p ts → is_idle p v ≡ false → is_write (next_of p v) ≡ true
+    (xs : List Act) (mid after : TraceTold) → Joint p → GivesStream p v → CanFire p ts → is_idle p v ≡ false → is_write (next_of p v) ≡ true
     → Makes p (act.Write v 0) q o → due ts p v ≡ xs → PlaysAll q xs mid r after → LeftByFailures (state_of q) (state_of r)
     → total_left (job_of p) ts (state_of r) < total_left (job_of p) ts (state_of p)
 lower_by_due lower fired ts p q r v o [] mid after joint stream can busy next makes is plays left =
@@ -147,7 +147,7 @@ lower_by_due lower fired ts p q r v o (a ∷ xs) mid after joint stream can busy
     fired (job_of p) ts (state_of p) (state_of r) v 0 joint.numbers stream can (λ e. not_empty a xs (sym is ∙ e))
     (subst (λ (s : State). LeftByFailures s (state_of r)) (sym (step_state p q (act.Write v 0) o makes)) left)
 
-write_drives : (ts : List Trigger) (p q r : PlantTold) (v : ℕ) (o : Outcome) (result : Result (Unit {0}) EngineFault) (before mid after : List Made)
+write_drives : (ts : List Trigger) (p q r : PlantTold) (v : ℕ) (o : Outcome) (result : Result (Unit {0}) EngineFault) (before mid after : TraceTold)
     → Joint p → GivesStream p v → CanFire p ts → is_write (next_of p v) ≡ true → is_stored o ≡ true → MakesOne p (act.Write v 0) before o q mid
     → Plays q (acts_at ts v (tail_at (state_of q) v).stored) mid result r after → Drives ts p before result r after
 write_drives ts p q r v o result before mid after joint stream can next stored one plays = record {
@@ -158,7 +158,7 @@ write_drives ts p q r v o result before mid after joint stream can next stored o
 }
 
 pub write_lowers : RuledActsLowerTheTotal → FailuresLeaveTheRest → FiredFailuresLowerTheTotal → ActsKeepJoint → (ts : List Trigger) (p q r : PlantTold)
-    (v : ℕ) (o : Outcome) (result : Result (Unit {0}) EngineFault) (before mid after : List Made) → Joint p → GivesStream p v → CanFire p ts
+    (v : ℕ) (o : Outcome) (result : Result (Unit {0}) EngineFault) (before mid after : TraceTold) → Joint p → GivesStream p v → CanFire p ts
     → is_idle p v ≡ false → is_write (next_of p v) ≡ true → is_stored o ≡ true → MakesOne p (act.Write v 0) before o q mid → Joint q
     → Plays q (acts_at ts v (tail_at (state_of q) v).stored) mid result r after → Lowers ts p before result r after
 write_lowers lower rest fired keep ts p q r v o (Ok done) before mid after joint stream can busy next stored one behind plays = record {

@@ -37,8 +37,9 @@ pub fn finish<O: Outputs, D: Depot>(
     }
 }
 
-/// Gives each stream a turn, and then lets each sink put what is stored.
-fn round<O: Outputs, D: Depot>(
+/// Gives each stream a turn, and then lets each sink put what is stored. Tells whether the job went forward: where it
+/// didn't, every sink has put all lines of its stream.
+pub fn round<O: Outputs, D: Depot>(
     plant: &mut Plant<O, D>,
     triggers: &[Trigger],
     trace: &mut Trace,

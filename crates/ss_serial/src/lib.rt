@@ -11,5 +11,5 @@ mod storing;
 mod taking;
 mod turns;
 
-pub use finishing::finish;
+pub use finishing::{finish, round};
 pub use ss_acts::EngineFault as SerialFault;

@@ -25,5 +25,5 @@ returns-clause-ends g c =
     let q : PlantTold = plant_told g.O.Outputs.told g.D.Depot.told c.play.new.plant in
     let facts : PlanFacts p.plan = subst PlanFacts c.plan.ensures c.plan_facts.ensures in
     subst (λ (f : PlayFault). Ends p c.args.acts.now (Err f) q) (sym c.of_engine.ensures)
-    (ends_early p facts c.args.acts.now _ _ c.in-Err.fault q c.requires.going (may_act p.plan c.args.acts.now c.requires.acts) c.new-trace.ensures
+    (ends_early p facts c.args.acts.now _ _ c.in-Err.fault q c.requires.going (may_act p.plan c.args.acts.now c.requires.acts)
     c.in-Err.ensures.plays)

@@ -12,11 +12,11 @@ use Rattle.ss_play.proofs.reporting.report_of.Goals as goal
 pub trace_of-requires : goal.trace_of-requires
 trace_of-requires g c =
     let p : PlantTold = plant_told g.O.Outputs.told g.D.Depot.told c.args.plant.now in
-    subst (λ (text : PlanText). All (MayAct (plan_numbers text)) (acts_of c.args.trace.now)) (sym c.plan-plan.ensures)
-    (may_act p.plan (acts_of c.args.trace.now) c.requires.acts)
+    subst (λ (text : PlanText). All (MayAct (plan_numbers text)) (acts_of c.args.trace.now.made)) (sym c.plan-plan.ensures)
+    (may_act p.plan (acts_of c.args.trace.now.made) c.requires.acts)
 
 pub returns : goal.returns
 returns g c =
     let p : PlantTold = plant_told g.O.Outputs.told g.D.Depot.told c.args.plant.now in
-    report_is p c.plan-plan.result.now c.args.trace.now _ c.plan-plan.ensures c.vault.ensures _ _ _
+    report_is p c.plan-plan.result.now c.args.trace.now.made _ c.plan-plan.ensures c.vault.ensures _ _ _
     c.in_ok-text.ensures c.in_ok-put_vertices.ensures c.in_ok-put_journal.ensures

@@ -10,6 +10,7 @@ use Rattle.ss_run.specs.Running.{StopsRunning}
 use Rattle.ss_state.specs.Rule.{IsTrigger}
 use Rattle.ss_vault.specs.Facts.{PlanFacts}
 use Rattle.ss_run.proofs.Runs.{not_started, ran}
+use Rattle.ss_run.proofs.Sinks.{put_is_meant}
 use Rattle.ss_run.proofs.running.run_job.Goals as goal
 
 pub run_on-answer-requires-clause-triggers : goal.run_on-answer-requires-clause-triggers
@@ -23,7 +24,8 @@ returns-in-Ok g c =
     let p : PlantTold = plant_told g.O.Outputs.told g.D.Depot.told c.in-Ok.plant in
     let q : PlantTold = plant_told g.O.Outputs.told g.D.Depot.told c.run_on-answer.new.plant in
     let facts : PlanFacts (arc_value c.args.plan) = subst PlanFacts c.deref.ensures c.plan_facts.ensures in
-    ran c.plays_are_told.ensures.all c.plays_are_told.ensures.stops (arc_value c.args.plan) facts c.args.triggers.now before p q
+    ran c.plays_are_told.ensures.all c.plays_are_told.ensures.stops
+    (put_is_meant c.meaning_is_made_of_the_inputs.ensures c.plans_have_numbers.ensures.runnable c.plans_have_numbers.ensures.meant) (arc_value c.args.plan) facts c.args.triggers.now before p q
     (record { begins = c.in-Ok.ensures.begins; joint = c.in-Ok.ensures.joint; left = c.run_on-answer.ensures.joint })
     c.args.wants_trace c.run_on-answer.result c.run_on-answer.ensures.ends _ _ c.into_parts-plan.ensures.outputs c.into_parts-plan.ensures.depot
 

@@ -6,4 +6,4 @@ pub tell-requires-clause-acts : goal.tell-requires-clause-acts
 tell-requires-clause-acts g c =
     let p : PlantTold = plant_told g.O.Outputs.told g.D.Depot.told c.args.plant.now in
     let q : PlantTold = plant_told g.O.Outputs.told g.D.Depot.told c.finish.new.plant in
-    made_may p q c.args.triggers.now _ _ c.new-trace.ensures c.in-Ok.ensures.drives
+    made_may p q c.args.triggers.now c.args.wants_trace _ _ c.new_trace-trace.ensures c.in-Ok.ensures.drives
