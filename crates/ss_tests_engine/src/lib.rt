@@ -2,20 +2,10 @@
 #![tactic(auto)]
 
 #[cfg(test)]
-mod collections;
-#[cfg(test)]
 mod faults;
 #[cfg(test)]
-mod jobs;
-#[cfg(test)]
 mod lost;
-#[cfg(test)]
-mod planned;
 #[cfg(test)]
 mod races;
 #[cfg(test)]
 mod rows;
-#[cfg(test)]
-mod running;
-#[cfg(test)]
-mod wipes;

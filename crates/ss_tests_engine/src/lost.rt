@@ -1,15 +1,13 @@
 //! All that is in memory is lost, and the job is driven to its end from what is stored.
-use crate::jobs::{
-    FILE, JOB, LINES, S, TAKE, W, crash, flush, flushed, got, kept, load, loaded, lose, lost, old,
-    read, snap, stored, took, write,
-};
-use crate::running::{Running, make_all};
 use ss_fail::Outcome;
-use std::process::Abort;
+use ss_test_jobs::{
+    FILE, JOB, LINES, Running, S, TAKE, Told, W, crash, flush, flushed, got, has_put, kept, load,
+    loaded, lose, lost, make_all, old, read, snap, stored, tells, took, write,
+};
 use std::test::Fail;
 
 /// Some elements are made, of which some are stored, and a snapshot; then all tails are lost and all replicas crash.
-fn lose_all(rt: &impl Abort, running: &mut Running) -> Result<(), Fail> {
+fn lose_all(running: &mut Running) -> Result<(), Fail> {
     let script = [
         (read(S, 0), got(0)),
         (write(S, 0), stored(0)),
@@ -21,7 +19,7 @@ fn lose_all(rt: &impl Abort, running: &mut Running) -> Result<(), Fail> {
         (write(W, 0), stored(0)),
         (read(W, 0), got(1)),
         (write(W, 0), stored(1)),
-        (snap(0), kept(2)),
+        (snap(W, 0), kept(2)),
         (flush(S, 2), flushed(2)),
         (flush(W, 1), flushed(1)),
         (TAKE, took(0)),
@@ -31,12 +29,12 @@ fn lose_all(rt: &impl Abort, running: &mut Running) -> Result<(), Fail> {
         (crash(W, 0), Outcome::Crashed),
         (crash(W, 1), Outcome::Crashed),
     ];
-    make_all(rt, running, &script)
+    make_all(running, &script)
 }
 
 /// The replicas come up again. That of the select goes on from its first snapshot, since the second has given more than
 /// is there of its stream.
-fn go_on(rt: &impl Abort, running: &mut Running) -> Result<(), Fail> {
+fn go_on(running: &mut Running) -> Result<(), Fail> {
     let script = [
         (read(W, 0), Outcome::Down),
         (load(S, 0), loaded(2)),
@@ -65,18 +63,29 @@ fn go_on(rt: &impl Abort, running: &mut Running) -> Result<(), Fail> {
         (TAKE, took(3)),
         (TAKE, Outcome::Ended),
     ];
-    make_all(rt, running, &script)
+    make_all(running, &script)
+}
+
+/// All that was lost is down, and what was stored is there.
+fn is_lost(running: &Running) -> Result<(), Fail> {
+    if running.inst(W, 0)?.is_some() {
+        return Err("a replica is up".into());
+    }
+    let told = Told {
+        source: (0, 2, 2, 2, true),
+        mark: 0,
+        select: (0, 1, 1, 1, true),
+        snaps: (2, Some(0)),
+        journal: (4, 3),
+    };
+    tells(running, told)
 }
 
 #[test]
 fn a_job_goes_on_from_what_is_stored(rt: HostRuntime) -> Result<(), Fail> {
     let mut running = Running::start(rt.alloc(), JOB, &[FILE])?;
-    lose_all(&rt, &mut running)?;
-    assert_eq!(rt; running.stream(S)?, (0, 2, 2, 2, true));
-    assert_eq!(rt; running.stream(W)?, (0, 1, 1, 1, true));
-    assert_eq!(rt; running.inst(W, 0)?, None);
-    go_on(&rt, &mut running)?;
-    let (_, outputs) = running.into_devices();
-    assert!(rt; outputs.bytes("o.csv") == LINES.as_bytes());
-    Ok(())
+    lose_all(&mut running)?;
+    is_lost(&running)?;
+    go_on(&mut running)?;
+    has_put(running, LINES)
 }

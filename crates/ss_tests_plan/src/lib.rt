@@ -5,6 +5,4 @@
 #[cfg(test)]
 mod limits;
 #[cfg(test)]
-mod planned;
-#[cfg(test)]
 mod streams;

@@ -1,5 +1,6 @@
-use crate::planned::{made, plan_of, stream_of};
+use crate::streams::stream_of;
 use ss_plan::{PlanFault, plain_all};
+use ss_test_jobs::{made, plan_of};
 use std::alloc::Global;
 use std::test::Fail;
 

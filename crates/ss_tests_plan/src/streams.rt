@@ -1,5 +1,6 @@
-use crate::planned::{lines_of, made, stream_of};
-use ss_plan::{plain_all, plans_mean_jobs};
+use ss_elem::Element;
+use ss_plan::{Plan, PlanFault, plain, plain_all, plans_mean_jobs};
+use ss_test_jobs::{lines_of, made};
 use std::alloc::Global;
 use std::process::Abort;
 use std::test::Fail;
@@ -58,6 +59,18 @@ vertex = [
     { name = 'out', op = 'sink', inputs = ['u'], file = 'out.csv' },
 ]
 ";
+
+/// The stream of a vertex alone.
+pub(crate) fn stream_of(
+    rt: &impl Abort,
+    alloc: Global,
+    plan: &Plan,
+    v: u32,
+) -> Result<Vec<Element>, PlanFault> {
+    let count = plan.job().graph().count();
+    assert!(rt; v < count);
+    plain(alloc, plan, v)
+}
 
 /// A job with its sources' files, and the stream that it means for the vertex before its sink.
 type Case<'a> = (&'a str, &'a [&'a str], &'a str);

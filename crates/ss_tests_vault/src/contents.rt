@@ -1,10 +1,9 @@
 //! What the depot holds behind a whole run, byte by byte. The digests are those of Python's hashlib.
-use crate::calls::make;
-use crate::devices::Trouble;
-use crate::jobs::{
-    COPY, SELECT, SmallJob, Step, WINDOW, run_of_copy, run_of_select, run_of_window,
+use ss_test_jobs::Trouble;
+use ss_test_vaults::{
+    COPY, SELECT, SmallJob, Step, Store, WINDOW, make, run_of_copy, run_of_select, run_of_window,
+    started,
 };
-use crate::store::{Store, started};
 use std::alloc::Global;
 use std::test::Fail;
 

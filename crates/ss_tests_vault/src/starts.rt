@@ -1,9 +1,7 @@
 //! Starts of which the depot fails.
-use crate::devices::Trouble;
-use crate::jobs::{COPY, SELECT, SmallJob, WINDOW};
-use crate::planned::made;
-use crate::store::Store;
 use ss_outside::{Depot, DepotCall};
+use ss_test_jobs::{Trouble, made};
+use ss_test_vaults::{COPY, SELECT, SmallJob, Store, WINDOW};
 use ss_vault::VaultFault;
 use std::alloc::Global;
 use std::process::Abort;

@@ -3,10 +3,10 @@ ghost use Rattle.std.specs.Prelude.{IfOk};
 ghost use Rattle.ss_vertex.specs.Standing.{InstStands};
 
 use crate::jobs::{JOIN, SELECT, UNION, WINDOW, WINDOW_FILE, WINDOW_LINES};
-use crate::planned::made;
 use crate::run::{Run, wanted_by};
 use crate::snapshots::{bytes_now, stop};
 use ss_plan::Plan;
+use ss_test_jobs::made;
 use std::alloc::Global;
 use std::process::Abort;
 use std::test::Fail;

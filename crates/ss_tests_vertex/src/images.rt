@@ -6,11 +6,11 @@ ghost use Rattle.ss_vertex.specs.Calls.{FitsVertex};
 ghost use Rattle.ss_vertex.specs.Standing.{InstStands};
 
 use crate::jobs::{JOIN, SELECT, UNION, WINDOW, WINDOW_FILE};
-use crate::planned::made;
 use crate::run::Run;
 use crate::snapshots::bytes_now;
 use ss_codec::{Frame, Image};
 use ss_plan::Plan;
+use ss_test_jobs::made;
 use ss_vertex::{Inst, LoadFault, snapshots_fit};
 use std::alloc::Global;
 use std::process::Abort;

@@ -4,10 +4,10 @@ ghost use Rattle.ss_frames.specs.Snapshot.{IsSnapshot};
 ghost use Rattle.ss_vertex.specs.Standing.{InstStands};
 
 use crate::jobs::{WINDOW, WINDOW_FILE, WINDOW_LINES};
-use crate::planned::made;
 use crate::run::{Run, is_at};
 use ss_codec::Frame;
 use ss_plan::Plan;
+use ss_test_jobs::made;
 use ss_vertex::SnapFault;
 use std::alloc::Global;
 use std::process::Abort;

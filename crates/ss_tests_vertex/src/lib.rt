@@ -15,8 +15,6 @@ mod limits;
 #[cfg(test)]
 mod listed;
 #[cfg(test)]
-mod planned;
-#[cfg(test)]
 mod run;
 #[cfg(test)]
 mod snapshots;

@@ -3,10 +3,10 @@ ghost use Rattle.std.specs.Prelude.{IfOk};
 ghost use Rattle.ss_vertex.specs.Standing.{InstStands};
 
 use crate::jobs::WINDOW_FILE;
-use crate::planned::made;
 use crate::run::{Run, is_at, wanted_by};
 use crate::snapshots::bytes_now;
 use ss_plan::Plan;
+use ss_test_jobs::made;
 use ss_vertex::ExecFault;
 use std::alloc::Global;
 use std::process::Abort;

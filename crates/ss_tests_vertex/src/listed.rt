@@ -3,10 +3,10 @@ ghost use Rattle.std.specs.Prelude.{◌≡◌, Some, IfOk};
 ghost use Rattle.ss_vertex.specs.Standing.{InstStands};
 
 use crate::jobs::{WINDOW, WINDOW_FILE};
-use crate::planned::made;
 use crate::run::{Run, is_at, wanted_by};
 use crate::streams::source;
 use ss_plan::{Plan, vertices_by_number};
+use ss_test_jobs::made;
 use ss_vertex::Inst;
 use std::alloc::Global;
 use std::process::Abort;

@@ -4,10 +4,11 @@ ghost use Rattle.ss_frames.specs.Snapshot.{IsSnapshot};
 ghost use Rattle.ss_vertex.specs.Calls.{IsWanted};
 ghost use Rattle.ss_vertex.specs.Standing.{InstStands};
 
-use crate::streams::{element_at, giving, lines_of, operator};
+use crate::streams::{element_at, giving, operator};
 use ss_codec::Frame;
 use ss_elem::Element;
 use ss_plan::{Plan, vertices_by_number};
+use ss_test_jobs::lines_of;
 use ss_vertex::{ExecFault, Inst, SnapFault, snapshots_fit};
 use std::alloc::Global;
 use std::process::Abort;

@@ -5,11 +5,11 @@ ghost use Rattle.ss_frames.specs.Snapshot.{IsSnapshot};
 ghost use Rattle.ss_vertex.specs.Standing.{InstStands};
 
 use crate::jobs::{WINDOW, WINDOW_FILE, WINDOW_LINES};
-use crate::planned::made;
 use crate::run::Run;
 use ss_codec::{Frame, get_frame, put_frame};
 use ss_frames::frames_have_codes;
 use ss_plan::Plan;
+use ss_test_jobs::made;
 use std::alloc::Global;
 use std::process::Abort;
 use std::test::Fail;

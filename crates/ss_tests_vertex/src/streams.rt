@@ -8,10 +8,10 @@ ghost use Rattle.ss_state.specs.NumbersOfMeaning.{GivesStream};
 ghost use Rattle.ss_vertex.specs.Arriving.{taken};
 ghost use Rattle.ss_vertex.specs.Calls.{IsElementAt};
 
-use crate::planned::is_source;
-use ss_elem::{Element, LineBuf, line};
+use ss_elem::Element;
 use ss_meaning::meaning_is_made_of_the_inputs;
 use ss_plan::{Plan, PlanFault, plain, plans_mean_jobs, vertices_by_number};
+use ss_test_jobs::is_source;
 use std::alloc::Global;
 use std::process::Abort;
 use std::test::Fail;
@@ -108,15 +108,4 @@ pub(crate) fn element_at(
         Some(x) => Ok(*x),
         None => Err(Fail::new("no such element")),
     }
-}
-
-/// The lines of a list.
-pub(crate) fn lines_of(alloc: Global, list: &[Element]) -> Result<Vec<u8>, Fail> {
-    let mut lines = Vec::new(alloc);
-    let mut buffer = LineBuf::new();
-    for x in list {
-        line(x, &mut buffer);
-        lines.extend_from_slice(buffer.as_slice())?;
-    }
-    Ok(lines)
 }

@@ -1,4 +1,0 @@
-pub mod Held
-pub mod Sources
-pub mod Streams
-pub mod Wanting
