@@ -18,6 +18,7 @@ mod joins;
 mod made;
 mod operators;
 mod passes;
+mod play_faults;
 mod played;
 mod plays;
 mod recovery;

@@ -1,35 +1,15 @@
 //! What is collected in plays, and what comes of it.
 
 use super::failures::rows;
+use super::play_faults::failing;
 use super::played::{
-    EVENTS, JOB, PLAY, check_example, check_over, played, report_behind, schedule_of,
+    EVENTS, JOB, PLAY, check_acts, check_example, check_over, played, report_behind, schedule_of,
 };
-use super::plays::failing;
 use super::{Left, OUTPUT_FAULT, check_done, done, inputs_of, outputs_of};
 use ss_outside::DepotCall;
 use std::alloc::Global;
 use std::process::Abort;
 use std::test::Fail;
-
-/// Plays acts on a job, and compares their outcomes, the lines of the sink, and the state that they leave.
-fn check_acts(
-    rt: &impl Abort,
-    alloc: Global,
-    job: &[u8],
-    acts: &[(&str, &str)],
-    lines: &str,
-    state: &str,
-) -> Result<(), Fail> {
-    let schedule = schedule_of(alloc, acts)?;
-    let report = report_behind(alloc, "", acts, state)?;
-    let done = played(alloc, job, EVENTS, schedule.as_str())?;
-    let outputs = &done.outside.outputs;
-    assert!(rt; done.status == 0, "status {}", done.status);
-    assert!(rt; outputs.bytes("-") == report.as_bytes(), "the report");
-    assert!(rt; outputs.bytes("o.csv") == lines.as_bytes(), "the lines");
-    assert!(rt; !outputs.was_put_to("!"), "a fault");
-    Ok(())
-}
 
 /// A stream that was never stored is collected up to its reader's snapshot, and its source goes on from there.
 const AHEAD: [(&str, &str); 23] = [

@@ -3,7 +3,7 @@ ghost use Rattle.ss_outside.specs.Depot.{no_contents};
 ghost use Rattle.ss_outside.specs.DepotCalls.{gives_bytes};
 ghost use Rattle.ss_outside.specs.MemDepot.{mem_depot_told};
 
-use super::plays::{damaged, failing};
+use super::play_faults::{damaged, failing};
 use super::{
     Command, EVENTS as TWO_ROWS, JOB as SHORT, Left, OUTPUT_FAULT, RUN, WHOLE, check_done,
     check_left, done, done_over, inputs_of, no_outputs,

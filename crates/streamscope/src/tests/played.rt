@@ -78,6 +78,28 @@ pub(super) fn report_behind(
     Ok(report)
 }
 
+/// Plays acts on a job, and compares their outcomes, the lines of the sink, and the state that they leave.
+pub(super) fn check_acts(
+    rt: &impl Abort,
+    alloc: Global,
+    job: &[u8],
+    acts: &[(&str, &str)],
+    lines: &str,
+    state: &str,
+) -> Result<(), Fail> {
+    let schedule = schedule_of(alloc, acts)?;
+    let report = report_behind(alloc, "", acts, state)?;
+    let done = played(alloc, job, EVENTS, schedule.as_str())?;
+    let outputs = &done.outside.outputs;
+    assert!(rt; done.status == 0, "status {}", done.status);
+    assert!(rt; outputs.bytes("-") == report.as_bytes(), "the report");
+    assert!(rt; outputs.bytes("o.csv") == lines.as_bytes(), "the lines");
+    // A sink that takes nothing isn't put to.
+    assert!(rt; outputs.was_put_to("o.csv") != lines.is_empty(), "the sink");
+    assert!(rt; !outputs.was_put_to("!"), "a fault");
+    Ok(())
+}
+
 /// Plays a schedule over a depot, and compares what it leaves.
 pub(super) fn check_over(
     rt: &impl Abort,

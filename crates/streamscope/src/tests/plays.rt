@@ -1,14 +1,11 @@
-ghost use Rattle.std.specs.Prelude.{◌≡◌, IfOk, true};
-ghost use Rattle.ss_outside.specs.Depot.{no_contents};
-ghost use Rattle.ss_outside.specs.DepotCalls.{gives_bytes};
-ghost use Rattle.ss_outside.specs.MemDepot.{mem_depot_told};
+//! Plays of schedules: what is traced, shown and refused.
 
 use super::played::{
-    EVENTS, JOB, PLAY, check_example, check_over, check_played, report_behind, schedule_of,
+    EVENTS, JOB, PLAY, check_acts, check_example, check_played, report_behind, schedule_of,
 };
 use super::{Command, Left, check_done, check_left, done, inputs_of, no_outputs};
 use ss_job::{Job, read_job};
-use ss_outside::{DepotCall, MemDepot, MemInputs};
+use ss_outside::MemInputs;
 use ss_play::release_all;
 use std::alloc::Global;
 use std::process::Abort;
@@ -47,15 +44,16 @@ const NOTHING_DONE: Left<'static> = Left {
 };
 
 /// Two replicas that race.
-const RACE: &str = "read s 0\nwrite s 0\nread w 0\nread w 1\nwrite w 0\nwrite w 1\n";
+const RACE: [(&str, &str); 6] = [
+    ("read s 0", "got 0 0"),
+    ("write s 0", "stored 0"),
+    ("read w 0", "got 0 0"),
+    ("read w 1", "got 0 0"),
+    ("write w 0", "stored 0"),
+    ("write w 1", "known 0"),
+];
 
-const RACED: &str = "read s 0: got 0 0
-write s 0: stored 0
-read w 0: got 0 0
-read w 1: got 0 0
-write w 0: stored 0
-write w 1: known 0
-stream s base 0 dur 0 from 0 end 1 torn no mark 0
+const RACED: &str = "stream s base 0 dur 0 from 0 end 1 torn no mark 0
 inst s 0 up n 1 next 1 left 0
 stream w base 0 dur 0 from 0 end 1 torn no snaps 0
 inst w 0 up n 1 next 1 left 0
@@ -65,23 +63,23 @@ journal 0 since 0
 ";
 
 /// A tail that is lost, and a source that goes on behind what is stored.
-const LOSS: &str = "read s 0\nwrite s 0\nread s 0\nwrite s 0\nread s 0\nwrite s 0
-flush s 1\nlose s\nread s 0\nwrite s 0\nload s 0\nread s 0\nwrite s 0\n";
+pub(super) const LOSS: [(&str, &str); 13] = [
+    ("read s 0", "got 0 0"),
+    ("write s 0", "stored 0"),
+    ("read s 0", "got 0 1"),
+    ("write s 0", "stored 1"),
+    ("read s 0", "got 0 2"),
+    ("write s 0", "stored 2"),
+    ("flush s 1", "flushed 1"),
+    ("lose s", "lost 3"),
+    ("read s 0", "got 0 3"),
+    ("write s 0", "gap 1"),
+    ("load s 0", "loaded 1"),
+    ("read s 0", "got 0 1"),
+    ("write s 0", "stored 1"),
+];
 
-const LOST: &str = "read s 0: got 0 0
-write s 0: stored 0
-read s 0: got 0 1
-write s 0: stored 1
-read s 0: got 0 2
-write s 0: stored 2
-flush s 1: flushed 1
-lose s: lost 3
-read s 0: got 0 3
-write s 0: gap 1
-load s 0: loaded 1
-read s 0: got 0 1
-write s 0: stored 1
-stream s base 0 dur 1 from 1 end 2 torn yes mark 0
+pub(super) const LOST: &str = "stream s base 0 dur 1 from 1 end 2 torn yes mark 0
 inst s 0 up n 2 next 2 left 0
 stream w base 0 dur 0 from 0 end 0 torn no snaps 0
 inst w 0 up n 0 next 0 left 0
@@ -91,32 +89,31 @@ journal 1 since 1
 ";
 
 /// An operator that waits for what its source has to make again.
-const AGAIN: &str = "read s 0\nwrite s 0\nread s 0\nwrite s 0\nread s 0\nwrite s 0
-read w 0\nwrite w 0\nread w 0\nwrite w 0\nread w 0\nwrite w 0
-snap w 0\nflush w 3\nlose s\nread s 0\nwrite s 0\nload s 0\nread s 0\nwrite s 0\nread w 0\n";
+const AGAIN: [(&str, &str); 21] = [
+    ("read s 0", "got 0 0"),
+    ("write s 0", "stored 0"),
+    ("read s 0", "got 0 1"),
+    ("write s 0", "stored 1"),
+    ("read s 0", "got 0 2"),
+    ("write s 0", "stored 2"),
+    ("read w 0", "got 0 0"),
+    ("write w 0", "stored 0"),
+    ("read w 0", "got 0 1"),
+    ("write w 0", "stored 1"),
+    ("read w 0", "got 0 2"),
+    ("write w 0", "stored 2"),
+    ("snap w 0", "kept 3"),
+    ("flush w 3", "flushed 3"),
+    ("lose s", "lost 3"),
+    ("read s 0", "got 0 3"),
+    ("write s 0", "gap 0"),
+    ("load s 0", "loaded 0"),
+    ("read s 0", "got 0 0"),
+    ("write s 0", "stored 0"),
+    ("read w 0", "wait 0 3"),
+];
 
-const MADE_AGAIN: &str = "read s 0: got 0 0
-write s 0: stored 0
-read s 0: got 0 1
-write s 0: stored 1
-read s 0: got 0 2
-write s 0: stored 2
-read w 0: got 0 0
-write w 0: stored 0
-read w 0: got 0 1
-write w 0: stored 1
-read w 0: got 0 2
-write w 0: stored 2
-snap w 0: kept 3
-flush w 3: flushed 3
-lose s: lost 3
-read s 0: got 0 3
-write s 0: gap 0
-load s 0: loaded 0
-read s 0: got 0 0
-write s 0: stored 0
-read w 0: wait 0 3
-stream s base 0 dur 0 from 0 end 1 torn yes mark 0
+const MADE_AGAIN: &str = "stream s base 0 dur 0 from 0 end 1 torn yes mark 0
 inst s 0 up n 1 next 1 left 0
 stream w base 0 dur 3 from 0 end 3 torn no snaps 0 3
 inst w 0 up n 3 next 3 left 0
@@ -126,37 +123,35 @@ journal 2 since 3
 ";
 
 /// A slow replica, which is loaded from the other's snapshot; a sink takes an element.
-const SLOW: &str = "read s 0\nwrite s 0\nread s 0\nwrite s 0\nread s 0\nwrite s 0
-read w 0\nwrite w 0\nread w 0\nwrite w 0\nread w 0\nwrite w 0
-read w 1\nwrite w 1\nsnap w 0\nflush s 3\nflush w 3\nflush s 1\nsnap w 1\nread w 1\nwrite w 1
-load w 1\ncrash w 1\nload w 1\ntake o\n";
+pub(super) const SLOW: [(&str, &str); 25] = [
+    ("read s 0", "got 0 0"),
+    ("write s 0", "stored 0"),
+    ("read s 0", "got 0 1"),
+    ("write s 0", "stored 1"),
+    ("read s 0", "got 0 2"),
+    ("write s 0", "stored 2"),
+    ("read w 0", "got 0 0"),
+    ("write w 0", "stored 0"),
+    ("read w 0", "got 0 1"),
+    ("write w 0", "stored 1"),
+    ("read w 0", "got 0 2"),
+    ("write w 0", "stored 2"),
+    ("read w 1", "got 0 0"),
+    ("write w 1", "known 0"),
+    ("snap w 0", "kept 3"),
+    ("flush s 3", "flushed 3"),
+    ("flush w 3", "flushed 3"),
+    ("flush s 1", "flushed 0"),
+    ("snap w 1", "old 3"),
+    ("read w 1", "got 0 1"),
+    ("write w 1", "known 1"),
+    ("load w 1", "up"),
+    ("crash w 1", "crashed"),
+    ("load w 1", "loaded 3"),
+    ("take o", "took 0"),
+];
 
-const SLOWED: &str = "read s 0: got 0 0
-write s 0: stored 0
-read s 0: got 0 1
-write s 0: stored 1
-read s 0: got 0 2
-write s 0: stored 2
-read w 0: got 0 0
-write w 0: stored 0
-read w 0: got 0 1
-write w 0: stored 1
-read w 0: got 0 2
-write w 0: stored 2
-read w 1: got 0 0
-write w 1: known 0
-snap w 0: kept 3
-flush s 3: flushed 3
-flush w 3: flushed 3
-flush s 1: flushed 0
-snap w 1: old 3
-read w 1: got 0 1
-write w 1: known 1
-load w 1: up
-crash w 1: crashed
-load w 1: loaded 3
-take o: took 0
-stream s base 0 dur 3 from 0 end 3 torn no mark 0
+const SLOWED: &str = "stream s base 0 dur 3 from 0 end 3 torn no mark 0
 inst s 0 up n 3 next 3 left 0
 stream w base 0 dur 3 from 0 end 3 torn no snaps 0 3
 inst w 0 up n 3 next 3 left 0
@@ -175,37 +170,16 @@ sink o taken 0
 journal 0 since 0
 ";
 
-const WAITED: &str = "take o: wait 0
-stream s base 0 dur 0 from 0 end 0 torn no mark 0
-inst s 0 up n 0 next 0 left 0
-stream w base 0 dur 0 from 0 end 0 torn no snaps 0
-inst w 0 up n 0 next 0 left 0
-inst w 1 up n 0 next 0 left 0
-sink o taken 0
-journal 0 since 0
-";
-
 #[test]
 fn a_schedule_is_traced_and_its_state_shown(rt: HostRuntime) -> Result<(), Fail> {
-    let cases: [(&str, &str, &str); 7] = [
-        ("", "", STARTED),
-        ("# no act\n\n", "", STARTED),
-        ("take o\n", "", WAITED),
-        (RACE, "", RACED),
-        (LOSS, "", LOST),
-        (AGAIN, "", MADE_AGAIN),
-        (SLOW, "event,1,2,k,1,0\n", SLOWED),
-    ];
-    for (schedule, taken, report) in cases {
-        let texts = [("o.csv", taken), ("-", report)];
-        let texts = if taken.is_empty() {
-            &texts[1..]
-        } else {
-            &texts[..]
-        };
-        check_played(&rt, rt.alloc(), JOB, schedule, Left { status: 0, texts })?;
-    }
-    Ok(())
+    let alloc = rt.alloc();
+    check_played(&rt, alloc, JOB, "", NOTHING_DONE)?;
+    check_played(&rt, alloc, JOB, "# no act\n\n", NOTHING_DONE)?;
+    check_acts(&rt, alloc, JOB, &[("take o", "wait 0")], "", STARTED)?;
+    check_acts(&rt, alloc, JOB, &RACE, "", RACED)?;
+    check_acts(&rt, alloc, JOB, &LOSS, "", LOST)?;
+    check_acts(&rt, alloc, JOB, &AGAIN, "", MADE_AGAIN)?;
+    check_acts(&rt, alloc, JOB, &SLOW, "event,1,2,k,1,0\n", SLOWED)
 }
 
 /// Every act with every outcome that it may have without collection, line for line with what comes of it.
@@ -293,20 +267,7 @@ const LINES: &str = "event,1,2,k,1,0\nevent,2,3,k,2,0\nevent,3,4,k,3,0\nend\n";
 
 #[test]
 fn every_act_has_every_outcome(rt: HostRuntime) -> Result<(), Fail> {
-    let alloc = rt.alloc();
-    let schedule = schedule_of(alloc, &EVERY)?;
-    let report = report_behind(alloc, "", &EVERY, EVERY_STATE)?;
-    let texts = [("o.csv", LINES), ("-", report.as_str())];
-    check_played(
-        &rt,
-        alloc,
-        JOB,
-        schedule.as_str(),
-        Left {
-            status: 0,
-            texts: &texts,
-        },
-    )
+    check_acts(&rt, rt.alloc(), JOB, &EVERY, LINES, EVERY_STATE)
 }
 
 /// A sink that writes to standard output has its lines there, and the report behind them.
@@ -474,114 +435,6 @@ fn a_schedule_has_at_most_200_bytes_in_its_name(rt: HostRuntime) -> Result<(), F
         more.as_str(),
         NOT_A_COMMAND,
     )
-}
-
-/// A depot that holds nothing, and fails in one call.
-pub(super) fn failing(alloc: Global, which: DepotCall, call: u64) -> Result<MemDepot, Fail>
-    ensures { IfOk result (λ depot. (mem_depot_told depot).contents ≡ no_contents) }
-{
-    let mut depot = MemDepot::new(alloc);
-    depot.fail(which, call)?;
-    Ok(depot)
-}
-
-/// A depot that holds nothing, and gives one answer short.
-pub(super) fn damaged(alloc: Global, which: DepotCall, call: u64) -> Result<MemDepot, Fail>
-    requires { gives_bytes which ≡ true }
-    ensures { IfOk result (λ depot. (mem_depot_told depot).contents ≡ no_contents) }
-{
-    let mut depot = MemDepot::new(alloc);
-    depot.damage(which, call)?;
-    Ok(depot)
-}
-
-#[test]
-fn each_call_of_the_store_fails_in_turn(rt: HostRuntime) -> Result<(), Fail> {
-    let alloc = rt.alloc();
-    let cases = [
-        (DepotCall::Keep, 1, LOSS),
-        (DepotCall::Append, 1, LOSS),
-        (DepotCall::Keep, 2, SLOW),
-        (DepotCall::Append, 1, SLOW),
-        (DepotCall::Append, 2, SLOW),
-        (DepotCall::Append, 3, SLOW),
-        (DepotCall::Append, 4, SLOW),
-        (DepotCall::Append, 5, SLOW),
-        (DepotCall::Append, 6, SLOW),
-        (DepotCall::Load, 1, SLOW),
-        (DepotCall::Fetch, 1, SLOW),
-    ];
-    let left = Left {
-        status: 6,
-        texts: &[("!", "streamscope: store fault\n")],
-    };
-    for (which, call, schedule) in cases {
-        let depot = failing(alloc, which, call)?;
-        check_over(&rt, alloc, schedule, &[], depot, left)?;
-    }
-    Ok(())
-}
-
-#[test]
-fn bytes_of_the_store_that_are_not_whole_are_told(rt: HostRuntime) -> Result<(), Fail> {
-    let alloc = rt.alloc();
-    let texts = [("!", "streamscope: stored bytes damaged: w 3\n")];
-    let depot = damaged(alloc, DepotCall::Load, 1)?;
-    check_over(
-        &rt,
-        alloc,
-        SLOW,
-        &[],
-        depot,
-        Left {
-            status: 11,
-            texts: &texts,
-        },
-    )?;
-    let texts = [("!", "streamscope: stored bytes damaged: w 0\n")];
-    let depot = damaged(alloc, DepotCall::Fetch, 1)?;
-    check_over(
-        &rt,
-        alloc,
-        SLOW,
-        &[],
-        depot,
-        Left {
-            status: 11,
-            texts: &texts,
-        },
-    )
-}
-
-#[test]
-fn each_put_fails_in_turn(rt: HostRuntime) -> Result<(), Fail> {
-    let alloc = rt.alloc();
-    let fault = "streamscope: output fault\n";
-    let whole = "event,1,2,k,1,0\n";
-    let cases: [(&str, (u64, u64), &[(&str, &str)]); 6] = [
-        (LOSS, (1, 0), &[("-", ""), ("!", fault)]),
-        (LOSS, (1, 4), &[("-", "read"), ("!", fault)]),
-        (LOSS, (1, 9999), &[("-", LOST), ("!", fault)]),
-        (SLOW, (1, 5), &[("o.csv", "event"), ("!", fault)]),
-        (SLOW, (1, 99), &[("o.csv", whole), ("!", fault)]),
-        (
-            SLOW,
-            (2, 4),
-            &[("o.csv", whole), ("-", "read"), ("!", fault)],
-        ),
-    ];
-    for (schedule, put, texts) in cases {
-        let depot = MemDepot::new(alloc);
-        check_over(
-            &rt,
-            alloc,
-            schedule,
-            &[put],
-            depot,
-            Left { status: 7, texts },
-        )?;
-    }
-    Ok(())
 }
 
 /// The schedule of `examples/play`, with what comes of each act.
