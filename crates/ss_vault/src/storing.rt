@@ -4,7 +4,7 @@ ghost use Rattle.ss_codec.specs.Record.{HasRecord, record_bytes};
 ghost use Rattle.ss_elem.specs.Validity.{next_bound};
 ghost use Rattle.ss_elem.specs.declared.element.Element.{Element};
 ghost use Rattle.ss_outside.specs.Depot.{next_number, record_at, with_record};
-ghost use Rattle.ss_vault.specs.Devices.{AppendsSome, GivesWhole, StoresCode};
+ghost use Rattle.ss_vault.specs.Devices.{AppendsSome, GivesWhole, IsOfNoShort, StoresCode};
 
 use crate::fault::VaultFault;
 use ss_codec::{get_element, put_element};
@@ -73,8 +73,9 @@ pub(crate) fn fetch_element<D: Depot>(
 ) -> Result<Element, VaultFault>
     requires vertex { v < 32 }
     requires held { IsSome (record_at (D.told depot.old).contents v n) }
-    ensures { (x : Element) → HasRecord x → record_at (D.told depot.old).contents v n ≡ Some (record_bytes v n x)
+    ensures gives { (x : Element) → HasRecord x → record_at (D.told depot.old).contents v n ≡ Some (record_bytes v n x)
         → GivesWhole (D.told depot.old) (D.told depot.new) v n x result }
+    ensures whole { IfErr result (IsOfNoShort (D.told depot.old) (D.told depot.new)) }
 {
     match depot.fetch(v, n, buffer) {
         Ok(()) => (),
