@@ -1,5 +1,5 @@
 //! Records on their way to a depot and from it.
-ghost use Rattle.std.specs.Prelude.{◌≡◌, ◌+◌, ◌<◌, ◌^◌, All, IsSome, OnOk, Some, length};
+ghost use Rattle.std.specs.Prelude.{◌≡◌, ◌+◌, ◌<◌, ◌^◌, All, IfErr, IsSome, OnOk, Some, length};
 ghost use Rattle.ss_codec.specs.Record.{HasRecord, record_bytes};
 ghost use Rattle.ss_elem.specs.Validity.{next_bound};
 ghost use Rattle.ss_elem.specs.declared.element.Element.{Element};
