@@ -1,0 +1,162 @@
+//! Elements by number, in pages of 64.
+ghost use Rattle.std.specs.Prelude.{◌≡◌, ◌+◌, ◌-◌, ◌<◌, ◌≤◌, ◌^◌, ◌++◌, [], ◌∷◌, IfOk, Some, drop, is_ok, length};
+ghost use Rattle.std.specs.Prelude.{if◌then◌else◌, slice_get, slice_index_or, take};
+ghost use Rattle.ss_tail.specs.Pages.{page_count};
+
+use crate::Memory;
+use crate::page::{PAGE, Page};
+use ss_elem::Element;
+use std::alloc::Global;
+use std::collections::VecDeque;
+use std::marker::Model;
+
+/// Elements that have numbers one after the other, the first of them `from`. Page q has those from 64q to 64q + 63, and
+/// is there exactly where an element of it is.
+#[derive(Drop)]
+pub(crate) struct Pages {
+    /// Each has its elements from its first number on, the first page also those below `from`, which count for nothing.
+    pages: VecDeque<Page>,
+    from: u64,
+    end: u64,
+    alloc: Global,
+}
+
+impl Model for Pages {
+    ghost use Rattle.ss_tail.specs.Pages.{ArePages, Numbered, numbered};
+
+    ghost Value = { Numbered };
+
+    ghost view = { λ p. numbered p.from p.pages.items };
+
+    ghost invariant = { λ p. ArePages p.from p.end p.pages.items };
+}
+
+impl Pages {
+    ghost use Rattle.ss_tail.specs.Pages.{Numbered};
+
+    /// No elements; the first will have number 0.
+    pub(crate) fn new(alloc: Global) -> Pages
+        ensures from { result.from ≡ 0 }
+        ensures items { result.items ≡ [] }
+    {
+        Pages {
+            pages: VecDeque::new(alloc),
+            from: 0,
+            end: 0,
+            alloc,
+        }
+    }
+
+    pub(crate) fn from(&self) -> u64
+        ensures { result ≡ self.now.from }
+    {
+        self.from
+    }
+
+    /// The number after that of the last element.
+    pub(crate) fn end(&self) -> u64
+        ensures { result ≡ self.now.from + length self.now.items }
+    {
+        self.end
+    }
+
+    /// How many pages there are.
+    pub(crate) fn count(&self) -> u64
+        ensures { result ≡ page_count self.now.from (self.now.from + length self.now.items) }
+    {
+        self.pages.len() as u64
+    }
+
+    /// Adds an element behind the others. Where it begins a page for which there is no memory, all is as before.
+    pub(crate) fn push(&mut self, x: &Element) -> Result<(), Memory>
+        requires { self.old.from + length self.old.items + 1 < 2 ^ 64 }
+        ensures from { self.new.from ≡ self.old.from }
+        ensures items { self.new.items ≡ (if is_ok result then self.old.items ++ x.now ∷ [] else self.old.items) }
+    {
+        let place = (self.end % PAGE) as usize;
+        if place == 0 || self.from == self.end {
+            let page = Page::with(self.alloc, place, x)?;
+            self.pages.push_back(page)?;
+        } else if let Some(last) = self.pages.back_mut() {
+            last.push(x)?;
+        }
+        self.end += 1;
+        Ok(())
+    }
+
+    /// The element that has number `n`.
+    pub(crate) fn get(&self, n: u64) -> Element
+        requires from { self.now.from ≤ n }
+        requires within { n < self.now.from + length self.now.items }
+        ensures { slice_get self.now.items (n - self.now.from) ≡ Some result }
+    {
+        let page = page_at(&self.pages, (n / PAGE - self.from / PAGE) as usize);
+        page[(n % PAGE) as usize]
+    }
+
+    /// At most so many elements from number `n` on, as the parts of them in one page and in the next.
+    pub(crate) fn slices(&self, n: u64, most: usize) -> (&[Element], &[Element])
+        requires from { self.now.from ≤ n }
+        requires most { most ≤ 64 }
+        ensures { result.0.now ++ result.1.now ≡ take most (drop (n - self.now.from) self.now.items) }
+    {
+        if n >= self.end {
+            return (&[], &[]);
+        }
+        let q = (n / PAGE - self.from / PAGE) as usize;
+        let first = page_at(&self.pages, q);
+        let next = page_at(&self.pages, q + 1);
+        let place = (n % PAGE) as usize;
+        let in_first = most.min(first.len() - place);
+        let in_next = (most - in_first).min(next.len());
+        (&first[place..place + in_first], &next[..in_next])
+    }
+
+    /// Drops the elements below number `m`, and each page of which nothing is left.
+    pub(crate) fn drop_below(&mut self, m: u64)
+        requires from { self.old.from ≤ m }
+        requires end { m ≤ self.old.from + length self.old.items }
+        ensures from { self.new.from ≡ m }
+        ensures items { self.new.items ≡ drop (m - self.old.from) self.old.items }
+    {
+        if m == self.end {
+            self.pages.clear();
+        } else {
+            drop_front(
+                &mut self.pages,
+                (m / PAGE - self.from / PAGE) as usize,
+            );
+        }
+        self.from = m;
+    }
+
+    /// Drops all elements; the next will have number `m`.
+    pub(crate) fn begin_at(&mut self, m: u64)
+        ensures from { self.new.from ≡ m }
+        ensures items { self.new.items ≡ [] }
+    {
+        self.pages.clear();
+        self.from = m;
+        self.end = m;
+    }
+}
+
+/// The elements of one of these pages, none where there is no such page.
+fn page_at(pages: &VecDeque<Page>, q: usize) -> &[Element]
+    ensures { result.now ≡ slice_index_or pages.now.items q [] }
+{
+    match pages.get(q) {
+        Some(page) => page.as_slice(),
+        None => &[],
+    }
+}
+
+/// Drops so many pages from the front.
+fn drop_front(pages: &mut VecDeque<Page>, count: usize)
+    requires { count ≤ length pages.old.items }
+    ensures { pages.new.items ≡ drop count pages.old.items }
+{
+    for _ in 0..count {
+        pages.pop_front();
+    }
+}
