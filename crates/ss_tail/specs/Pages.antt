@@ -33,3 +33,14 @@ pub record ArePages (from end : ℕ) (pages : List (List Element)) : Type 0 wher
   pub count : length pages ≡ page_count from end
   pub full : AreFull pages
   pub long : from < end → length (joined pages) ≡ from % 64 + (end - from)
+
+-- pages with an element more in the last one
+abbrev pub with_more : List (List Element) → Element → List (List Element)
+with_more [] x = []
+with_more (page ∷ []) x = (page ++ x ∷ []) ∷ []
+with_more (page ∷ next ∷ pages) x = page ∷ with_more (next ∷ pages) x
+
+-- pages with one more behind them, which ends with this element at this place
+abbrev pub AddsPage : List (List Element) → ℕ → Element → List (List Element) → Type 0
+AddsPage old place x new =
+    (page : List Element) × (length page ≡ place + 1) × (drop place page ≡ x ∷ []) × (new ≡ old ++ page ∷ [])

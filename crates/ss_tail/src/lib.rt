@@ -3,6 +3,7 @@
 
 mod answers;
 mod page;
+mod page_list;
 mod pages;
 mod tail;
 

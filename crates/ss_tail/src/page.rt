@@ -30,7 +30,7 @@ impl Page {
         ensures last { IfOk result (λ page. drop place page ≡ x.now ∷ []) }
     {
         let mut items = Vec::with_capacity(alloc, PAGE as usize)?;
-        for _ in 0..place {
+        for same in 0..place {
             items.push(*x)?;
         }
         items.push(*x)?;

@@ -1,10 +1,10 @@
-//! Elements by number, in pages of 64.
 ghost use Rattle.std.specs.Prelude.{◌≡◌, ◌+◌, ◌-◌, ◌<◌, ◌≤◌, ◌^◌, ◌++◌, [], ◌∷◌, IfOk, Some, drop, is_ok, length};
-ghost use Rattle.std.specs.Prelude.{if◌then◌else◌, slice_get, slice_index_or, take};
+ghost use Rattle.std.specs.Prelude.{if◌then◌else◌, slice_get, take};
 ghost use Rattle.ss_tail.specs.Pages.{page_count};
 
 use crate::Memory;
 use crate::page::{PAGE, Page};
+use crate::page_list::{add, drop_below, page_at};
 use ss_elem::Element;
 use std::alloc::Global;
 use std::collections::VecDeque;
@@ -73,13 +73,7 @@ impl Pages {
         ensures from { self.new.from ≡ self.old.from }
         ensures items { self.new.items ≡ (if is_ok result then self.old.items ++ x.now ∷ [] else self.old.items) }
     {
-        let place = (self.end % PAGE) as usize;
-        if place == 0 || self.from == self.end {
-            let page = Page::with(self.alloc, place, x)?;
-            self.pages.push_back(page)?;
-        } else if let Some(last) = self.pages.back_mut() {
-            last.push(x)?;
-        }
+        add(&mut self.pages, self.alloc, self.from, self.end, x)?;
         self.end += 1;
         Ok(())
     }
@@ -104,12 +98,10 @@ impl Pages {
             return (&[], &[]);
         }
         let q = (n / PAGE - self.from / PAGE) as usize;
-        let first = page_at(&self.pages, q);
-        let next = page_at(&self.pages, q + 1);
         let place = (n % PAGE) as usize;
-        let in_first = most.min(first.len() - place);
-        let in_next = (most - in_first).min(next.len());
-        (&first[place..place + in_first], &next[..in_next])
+        let first = part(page_at(&self.pages, q), place, most);
+        let rest = part(page_at(&self.pages, q + 1), 0, most - first.len());
+        (first, rest)
     }
 
     /// Drops the elements below number `m`, and each page of which nothing is left.
@@ -119,14 +111,7 @@ impl Pages {
         ensures from { self.new.from ≡ m }
         ensures items { self.new.items ≡ drop (m - self.old.from) self.old.items }
     {
-        if m == self.end {
-            self.pages.clear();
-        } else {
-            drop_front(
-                &mut self.pages,
-                (m / PAGE - self.from / PAGE) as usize,
-            );
-        }
+        drop_below(&mut self.pages, self.from, self.end, m);
         self.from = m;
     }
 
@@ -141,22 +126,11 @@ impl Pages {
     }
 }
 
-/// The elements of one of these pages, none where there is no such page.
-fn page_at(pages: &VecDeque<Page>, q: usize) -> &[Element]
-    ensures { result.now ≡ slice_index_or pages.now.items q [] }
+/// At most so many of these elements, from the one at this place on.
+fn part(items: &[Element], place: usize, most: usize) -> &[Element]
+    requires { place ≤ length items.now }
+    ensures { result.now ≡ take most (drop place items.now) }
 {
-    match pages.get(q) {
-        Some(page) => page.as_slice(),
-        None => &[],
-    }
-}
-
-/// Drops so many pages from the front.
-fn drop_front(pages: &mut VecDeque<Page>, count: usize)
-    requires { count ≤ length pages.old.items }
-    ensures { pages.new.items ≡ drop count pages.old.items }
-{
-    for _ in 0..count {
-        pages.pop_front();
-    }
+    let items = &items[place..];
+    &items[..most.min(items.len())]
 }

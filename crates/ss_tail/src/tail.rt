@@ -2,7 +2,7 @@ ghost use Rattle.std.specs.Prelude.{◌≡◌, ◌+◌, ◌-◌, ◌<◌, ◌≤
 ghost use Rattle.std.specs.Prelude.{IfOk, Some, if◌then◌else◌};
 ghost use Rattle.ss_elem.specs.declared.element.Element.{Element};
 ghost use Rattle.ss_state.specs.Tails.{batch_from, batch_len};
-ghost use Rattle.ss_tail.specs.Answers.{IsOf, shown_at, wrote_at};
+ghost use Rattle.ss_tail.specs.Answers.{IsOf, past_end, shown_at, wrote_at};
 ghost use Rattle.ss_tail.specs.Held.{IsNumbered, Stands, added, batch_items, begun_at, empty, noted, part, trimmed};
 ghost use Rattle.ss_tail.specs.Held.{written};
 ghost use Rattle.ss_tail.specs.Pages.{page_count};
@@ -132,10 +132,17 @@ impl Tail {
         if n < from {
             return Shown::Below { from };
         }
-        let end = self.end();
-        if n < end {
+        if n < self.end() {
             return Shown::Item(self.pages.get(n));
         }
+        self.past_end()
+    }
+
+    /// What is told of a number past the last element.
+    fn past_end(&self) -> Shown
+        ensures { result ≡ past_end self.now.numbers }
+    {
+        let end = self.end();
         if self.torn {
             Shown::Torn { end }
         } else {
@@ -171,6 +178,12 @@ impl Tail {
     pub fn trim(&mut self, m: u64)
         ensures trimmed { self.new ≡ trimmed self.old m }
         ensures standing { (list : List Element) (most : ℕ) → Stands list most self.old → Stands list most self.new }
+    {
+        self.drop_below(m);
+    }
+
+    fn drop_below(&mut self, m: u64)
+        ensures { self.new ≡ trimmed self.old m }
     {
         let from = self.pages.from().max(m.min(self.pages.end()));
         self.pages.drop_below(from);
