@@ -1,8 +1,12 @@
-//! The tests of merges, and of what operators take from below. They stand apart from what they test, so that no
-//! library is proved twice.
+//! The tests of windows, joins and operators that no line of text can say. A crate with tests is proved twice, with
+//! them and without, so they stand apart from what they test.
 #![tactic(auto)]
 
 #[cfg(test)]
-mod given;
+mod harness;
 #[cfg(test)]
-mod merges;
+mod join_memory;
+#[cfg(test)]
+mod panes;
+#[cfg(test)]
+mod window_memory;
