@@ -1,5 +1,5 @@
 -- How long the bytes of numbers, keys, entries and rows are.
-use Rattle.std.proofs.Common.{◌≡◌, ℕ, ◌+◌, ◌-◌, ◌*◌, ◌≤◌, List, [], ◌∷◌, ◌++◌, length, arith}
+use Rattle.std.proofs.Common.{◌≡◌, ℕ, ◌-◌, ◌*◌, ◌≤◌, List, [], ◌∷◌, ◌++◌, length, arith}
 use Rattle.std.specs.Prelude.{replicate}
 use Rattle.std.specs.Int.{w64, w128, to_be_bytes, cast_unsigned}
 use Rattle.std.specs.List.{flat_map, prefix_len}
