@@ -4,4 +4,5 @@ pub mod KeyOrder
 pub mod Line
 pub mod NotNext
 pub mod OutList
+pub mod Rows
 pub mod Validity

@@ -1,6 +1,9 @@
+ghost use Rattle.std.specs.Prelude.{◌≡◌};
+ghost use Rattle.ss_elem.specs.Rows.{has_two_values};
+
 use crate::key::Key;
 
-/// A row of a stream: a key and two values that hold from `start` up to, and without, `end`. Times have no unit of
+/// A row of a stream: a key and four values that hold from `start` up to, and without, `end`. Times have no unit of
 /// their own; in a valid stream they are below 2^63.
 #[derive(Clone, Copy, Debug, PartialEq, Eq)]
 pub struct Event {
@@ -14,6 +17,19 @@ pub struct Event {
     pub a: i64,
     /// The second value.
     pub b: i64,
+    /// The third value.
+    pub c: i64,
+    /// The fourth value.
+    pub d: i64,
+}
+
+impl Event {
+    /// Whether the third and the fourth value are 0, so that the first two say all.
+    pub fn has_two_values(&self) -> bool
+        ensures { result ≡ has_two_values self.now }
+    {
+        self.c == 0 && self.d == 0
+    }
 }
 
 /// One element of a stream.

@@ -1,7 +1,7 @@
 ghost use Rattle.std.specs.Prelude.{◌≡◌, ℕ, ◌+◌, ◌≤◌, ◌++◌, List, [], length};
 ghost use Rattle.std.specs.Fmt.{decimal, signed_decimal};
 ghost use Rattle.ss_elem.specs.Key.{key_text};
-ghost use Rattle.ss_elem.specs.Line.{line_of};
+ghost use Rattle.ss_elem.specs.Line.{last_values, line_of};
 
 use crate::element::{Element, Event};
 use crate::key::Key;
@@ -11,7 +11,7 @@ use std::marker::Model;
 
 const LINE_BYTES: usize = 160;
 
-/// A buffer for one line, of 160 bytes; every line fits.
+/// A buffer for one line, of 160 bytes; every line fits, since none is longer than 147.
 #[derive(Drop)]
 pub struct LineBuf {
     bytes: ArrayVec<u8, LINE_BYTES>,
@@ -54,7 +54,7 @@ impl LineBuf {
     }
 
     fn put_unsigned(&mut self, number: u64)
-        requires { length self.old ≤ 120 }
+        requires { length self.old ≤ 140 }
         ensures text { self.new ≡ self.old ++ decimal number }
         ensures short { length self.new ≤ length self.old + 20 }
     {
@@ -62,7 +62,7 @@ impl LineBuf {
     }
 
     fn put_signed(&mut self, number: i64)
-        requires { length self.old ≤ 120 }
+        requires { length self.old ≤ 140 }
         ensures text { self.new ≡ self.old ++ signed_decimal number }
         ensures short { length self.new ≤ length self.old + 20 }
     {
@@ -70,7 +70,7 @@ impl LineBuf {
     }
 
     fn put_key(&mut self, key: &Key)
-        requires { length self.old ≤ 120 }
+        requires { length self.old ≤ 140 }
         ensures text { self.new ≡ self.old ++ key_text key.now }
         ensures short { length self.new ≤ length self.old + 16 }
     {
@@ -92,12 +92,26 @@ impl LineBuf {
         self.put_signed(event.a);
         self.put(b",");
         self.put_signed(event.b);
+        self.put_last_values(event);
         self.put(b"\n");
+    }
+
+    fn put_last_values(&mut self, event: &Event)
+        requires { length self.old ≤ 110 }
+        ensures text { self.new ≡ self.old ++ last_values event.now }
+        ensures short { length self.new ≤ length self.old + 42 }
+    {
+        if !event.has_two_values() {
+            self.put(b",");
+            self.put_signed(event.c);
+            self.put(b",");
+            self.put_signed(event.d);
+        }
     }
 }
 
-/// Makes `out` the element's line and its newline: `event,START,END,KEY,A,B`, `cti,T` or `end`, numbers in
-/// plain decimal.
+/// Makes `out` the element's line and its newline: `event,START,END,KEY,A,B,C,D`, `cti,T` or `end`, numbers in
+/// plain decimal. C and D are left out together, where both are 0.
 pub fn line(x: &Element, out: &mut LineBuf)
     ensures { out.new ≡ line_of x.now }
 {

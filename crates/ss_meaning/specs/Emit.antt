@@ -14,6 +14,8 @@ pub record Selection : Type 0 where
   pub test : Event → Bool
   pub a : Event → ℤ
   pub b : Event → ℤ
+  pub c : Event → ℤ
+  pub d : Event → ℤ
 
 -- what a vertex does with what arrives
 pub data Kind : Type 0 where
@@ -24,7 +26,15 @@ pub data Kind : Type 0 where
 
 -- a row with the values that a select computes from it
 abbrev pub revalued : Selection → Event → Event
-revalued select row = record { start = row.start; end = row.end; key = row.key; a = select.a row; b = select.b row }
+revalued select row = record {
+  start = row.start;
+  end = row.end;
+  key = row.key;
+  a = select.a row;
+  b = select.b row;
+  c = select.c row;
+  d = select.d row;
+}
 
 -- the rows that a vertex with so many inputs gives at x, where p arrived before
 abbrev pub rows_at : Kind → ℕ → List Arrival → Arrival → List Event

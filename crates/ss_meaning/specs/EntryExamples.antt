@@ -14,7 +14,7 @@ summed end key sum count = record { end = end; key = key; value = pos sum; rows 
 
 -- a row of a join's side
 abbrev pub kept : ℕ → ℕ → ℕ → ℕ → Event
-kept start end key a = record { start = start; end = end; key = key; a = pos a; b = pos 0 }
+kept start end key a = record { start = start; end = end; key = key; a = pos a; b = pos 0; c = pos 0; d = pos 0 }
 
 -- a row stands in the entry of each window to which it belongs
 abbrev pub RowInTwoWindows : Type 0
@@ -70,4 +70,4 @@ LaterKeyInItsPlace =
 abbrev pub EntryBecomesRow : Type 0
 EntryBecomesRow =
     row_of_entry 10 (summed 20 k (2 ^ 64) 2)
-    ≡ record { start = 20; end = 30; key = k; a = pos (2 ^ 63 - 1); b = pos 2 }
+    ≡ record { start = 20; end = 30; key = k; a = pos (2 ^ 63 - 1); b = pos 2; c = pos 0; d = pos 0 }

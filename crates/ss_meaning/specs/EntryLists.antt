@@ -46,4 +46,12 @@ put_values join key value (w ∷ ws) es = put_values join key value ws (put_valu
 
 -- the row that an entry becomes once Low has reached its end
 abbrev pub row_of_entry : ℕ → WindowEntry → Event
-row_of_entry hop e = record { start = e.end; end = e.end + hop; key = e.key; a = clamped e.value; b = pos e.rows }
+row_of_entry hop e = record {
+  start = e.end;
+  end = e.end + hop;
+  key = e.key;
+  a = clamped e.value;
+  b = pos e.rows;
+  c = pos 0;
+  d = pos 0;
+}

@@ -1,5 +1,5 @@
 -- Worked examples: small jobs with the streams that they mean, each written out by hand.
-use Rattle.std.specs.Prelude.{◌≡◌, ℕ, ◌+◌, ◌-◌, ◌^◌, true, ℤ, pos, neg_ℤ, List, [], ◌∷◌, codes}
+use Rattle.std.specs.Prelude.{◌≡◌, ℕ, ◌+◌, ◌-◌, ◌^◌, true, ℤ, pos, neg_ℤ, ◌-ℤ◌, List, [], ◌∷◌, codes}
 use Rattle.ss_elem.specs.Key.{key_number}
 use Rattle.ss_elem.specs.declared.element.Element.{Element}
 use Rattle.ss_elem.specs.declared.element.Element.TheVariants.{Row, Cti, End}
@@ -22,8 +22,12 @@ abbrev pub q : ℕ
 q = key_number (codes "q")
 
 -- a row of a stream
+abbrev pub of_four : ℕ → ℕ → ℕ → ℤ → ℤ → ℤ → ℤ → Element
+of_four start end key a b c d = Row (record { start = start; end = end; key = key; a = a; b = b; c = c; d = d })
+
+-- one whose third and fourth value are 0
 abbrev pub valued : ℕ → ℕ → ℕ → ℤ → ℤ → Element
-valued start end key a b = Row (record { start = start; end = end; key = key; a = a; b = b })
+valued start end key a b = of_four start end key a b (pos 0) (pos 0)
 
 -- the same with values that are not negative
 abbrev pub row : ℕ → ℕ → ℕ → ℕ → ℕ → Element
@@ -45,9 +49,16 @@ over_itself kind list = Source list ∷ Inner kind (0 ∷ 0 ∷ []) ∷ []
 abbrev pub sums : ℕ → ℕ → Kind
 sums size hop = Hopping (record { size = size; hop = hop; aggregate = total; field = λ row. row.a })
 
--- a select that exchanges the two values
+-- a select that exchanges the first two values
 abbrev pub swapped : Kind
-swapped = Select (record { test = λ row. true; a = λ row. row.b; b = λ row. row.a })
+swapped =
+    Select (record { test = λ row. true; a = λ row. row.b; b = λ row. row.a; c = λ row. row.c; d = λ row. row.d })
+
+-- a select that moves the third value to the first place, clears the third, and computes the fourth
+abbrev pub moved : Kind
+moved =
+    Select
+    (record { test = λ row. true; a = λ row. row.c; b = λ row. row.b; c = λ row. pos 0; d = λ row. row.a -ℤ row.c })
 
 -- the greatest value of a row
 abbrev pub most : ℕ
@@ -107,6 +118,15 @@ LeastOfB =
     ≡ valued 10 20 k (neg_ℤ (pos 3)) (pos 2) ∷ valued 20 30 k (neg_ℤ (pos 3)) (pos 2)
     ∷ valued 30 40 k (neg_ℤ (pos 3)) (pos 2) ∷ End ∷ []
 
+-- the sum of the fourth value: a window's own rows have two values
+abbrev pub SumOfD : Type 0
+SumOfD =
+    meaning
+    (over (Hopping (record { size = 10; hop = 10; aggregate = total; field = λ row. row.d }))
+    (of_four 1 2 k (pos 1) (pos 2) (pos 3) (pos 4) ∷ of_four 2 3 k (pos 5) (pos 6) (pos 7) (neg_ℤ (pos 9)) ∷ End ∷ []))
+    1
+    ≡ valued 10 20 k (neg_ℤ (pos 5)) (pos 2) ∷ End ∷ []
+
 -- a row joins each earlier row of the other input that it overlaps, also one whose own input is far ahead
 abbrev pub RowsJoinWhereTheyOverlap : Type 0
 RowsJoinWhereTheyOverlap =
@@ -130,6 +150,21 @@ abbrev pub JoinWithItself : Type 0
 JoinWithItself =
     meaning (over_itself Join (row 1 4 k 1 0 ∷ row 2 6 k 2 0 ∷ End ∷ [])) 1
     ≡ row 1 4 k 1 1 ∷ row 2 4 k 2 1 ∷ row 2 4 k 1 2 ∷ row 2 6 k 2 2 ∷ End ∷ []
+
+-- of each side a join gives the first and the third value, the left one's before the right one's
+abbrev pub JoinGivesOfEachSide : Type 0
+JoinGivesOfEachSide =
+    meaning
+    (over_two Join (of_four 1 4 k (pos 1) (pos 2) (pos 3) (pos 4) ∷ End ∷ [])
+    (of_four 2 6 k (pos 5) (pos 6) (pos 7) (pos 8) ∷ End ∷ []))
+    2
+    ≡ of_four 2 4 k (pos 1) (pos 5) (pos 3) (pos 7) ∷ End ∷ []
+
+-- all four new values are computed from the old ones
+abbrev pub ValuesMove : Type 0
+ValuesMove =
+    meaning (over moved (of_four 5 9 k (pos 3) (pos 0) (pos 7) (pos 0) ∷ End ∷ [])) 1
+    ≡ of_four 5 9 k (pos 7) (pos 0) (pos 0) (neg_ℤ (pos 4)) ∷ End ∷ []
 
 -- both new values are computed from the old ones
 abbrev pub ValuesSwap : Type 0

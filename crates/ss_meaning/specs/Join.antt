@@ -6,10 +6,18 @@ use Rattle.ss_elem.specs.declared.element.Event.{Event}
 abbrev pub matches : Event → Event → Bool
 matches x y = x.key == y.key && nat_lt x.start y.end && nat_lt y.start x.end
 
--- two matching rows as one: the time that they have in common, the left a and the right a
+-- two matching rows as one: the time that they have in common, the left a and the right a as its a and b, and the left
+-- c and the right c as its c and d
 abbrev pub joined : Event → Event → Event
-joined left right =
-    record { start = max left.start right.start; end = min left.end right.end; key = left.key; a = left.a; b = right.a }
+joined left right = record {
+  start = max left.start right.start;
+  end = min left.end right.end;
+  key = left.key;
+  a = left.a;
+  b = right.a;
+  c = left.c;
+  d = right.c;
+}
 
 -- a row of this input and one of the other as one: input 0 is the left one
 abbrev pub joined_from : ℕ → Event → Event → Event

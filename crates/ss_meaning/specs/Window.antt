@@ -68,12 +68,12 @@ window_ends window rows before after =
 abbrev pub window_keys : Window → List Event → ℕ → List ℕ
 window_keys window rows w = rising (map (λ row. row.key) (filter (belongs window w) rows))
 
--- what the window that ends at w gives for a key: the aggregate, exact and then clamped, and the count
+-- what the window that ends at w gives for a key: the aggregate, exact and then clamped, and the count, and no more
 abbrev pub window_row : Window → List Event → ℕ → ℕ → Event
 window_row window rows w key =
     let counted = window_members window rows w key in
     let value = clamped (window.aggregate (map window.field counted)) in
-    record { start = w; end = w + window.hop; key = key; a = value; b = pos (length counted) }
+    record { start = w; end = w + window.hop; key = key; a = value; b = pos (length counted); c = pos 0; d = pos 0 }
 
 -- what is given where the bound rises, of all rows so far: window after window, and in each key after key
 abbrev pub window_rows : Window → List Event → ℕ → ℕ → List Event

@@ -35,7 +35,7 @@ abbrev pub counts_rows_at_the_end : Window → List Event → ℕ → ℕ → Ev
 counts_rows_at_the_end window rows w key =
     let counted = filter (λ row. nat_le row.start w && nat_le w (row.start + window.size) && row.key == key) rows in
     let value = clamped (window.aggregate (map window.field counted)) in
-    record { start = w; end = w + window.hop; key = key; a = value; b = pos (length counted) }
+    record { start = w; end = w + window.hop; key = key; a = value; b = pos (length counted); c = pos 0; d = pos 0 }
 
 -- wrong: a row that starts where a window ends is counted into it
 abbrev pub windows_with_rows_at_the_end : Window → List Arrival → Arrival → List Element

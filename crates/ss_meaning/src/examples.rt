@@ -1,6 +1,6 @@
 ghost use Rattle.ss_meaning.specs.Examples.{WindowsOverlap, RowWhereAWindowEnds, WindowsFarApart};
 ghost use Rattle.ss_meaning.specs.Examples.{WindowsAtTheLatestTimes, KeysInOrder, SumTooGreat, SumComesBack};
-ghost use Rattle.ss_meaning.specs.Examples.{LeastOfB};
+ghost use Rattle.ss_meaning.specs.Examples.{LeastOfB, SumOfD, JoinGivesOfEachSide, ValuesMove};
 ghost use Rattle.ss_meaning.specs.Examples.{RowsJoinWhereTheyOverlap, SpansThatTouchDoNotJoin, JoinWithItself};
 ghost use Rattle.ss_meaning.specs.Examples.{ValuesSwap, UnionOfTwo, UnionWithItself, TieOfBounds, JobOfFourIsJob};
 ghost use Rattle.ss_meaning.specs.Examples.{JobOfFour};
@@ -18,6 +18,7 @@ pub fn window_examples()
     ensures sum_too_great { SumTooGreat }
     ensures sum_comes_back { SumComesBack }
     ensures least_of_b { LeastOfB }
+    ensures sum_of_d { SumOfD }
 {}
 
 /// What joins give, on small sources.
@@ -25,11 +26,13 @@ pub fn join_examples()
     ensures rows_join_where_they_overlap { RowsJoinWhereTheyOverlap }
     ensures spans_that_touch_do_not_join { SpansThatTouchDoNotJoin }
     ensures join_with_itself { JoinWithItself }
+    ensures join_gives_of_each_side { JoinGivesOfEachSide }
 {}
 
 /// What selects and unions give, and the order in which several streams arrive.
 pub fn merge_examples()
     ensures values_swap { ValuesSwap }
+    ensures values_move { ValuesMove }
     ensures union_of_two { UnionOfTwo }
     ensures union_with_itself { UnionWithItself }
     ensures tie_of_bounds { TieOfBounds }
