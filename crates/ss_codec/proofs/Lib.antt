@@ -2,6 +2,8 @@ pub mod Bounds
 pub mod Bytes
 pub mod FrameCodes
 pub mod Frames
+pub mod Fronts
 pub mod Keys
+pub mod RecordReads
 pub mod Records
 pub mod Seals

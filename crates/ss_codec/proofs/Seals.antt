@@ -1,5 +1,5 @@
 -- Tests that are passed, and seals.
-use Rattle.std.proofs.Common.{◌≡◌, ℕ, ◌+◌, Bool, true, false, cond, List, ◌++◌, length, take, drop, Option, Some, None, refl, sym, ap, ◌∙◌, arith}
+use Rattle.std.proofs.Common.{◌≡◌, ℕ, ◌+◌, Bool, true, false, cond, List, [], ◌∷◌, ◌++◌, length, take, drop, Option, Some, None, refl, sym, ap, ◌∙◌, arith}
 use Rattle.std.specs.Prelude.{nat_le, bytes_eq}
 use Rattle.std.proofs.lemmas.Bool.{le-leb}
 use Rattle.std.proofs.lemmas.Slice.Eq.{bytes_eq-Decides}
@@ -7,6 +7,7 @@ use Rattle.std.proofs.lemmas.List.{take_at, drop_at, length-append}
 use Rattle.sha2.specs.Sha256.{sha256}
 use Rattle.sha2.proofs.Facts256.{length-sha256}
 use Rattle.ss_codec.specs.Record.{sealed}
+use Rattle.ss_codec.specs.Tests.{Test, first_fault}
 use Rattle.ss_codec.proofs.Bytes.{Spells}
 
 -- a test is passed, and so are those behind it
@@ -16,6 +17,17 @@ passed false others fault e = absurd cc
 
 pub passes : {A : Type 0} (b : Bool) (others : Option A) (fault : A) → b ≡ true → others ≡ None → cond b others (Some fault) ≡ None
 passes b others fault here behind = rw here behind
+
+-- what the last of some tests says, where those before it are passed
+pub last_fault : (tests : List Test) (test : Test) → first_fault tests ≡ None → first_fault (tests ++ test ∷ []) ≡ cond test.passed None (Some test.fault)
+last_fault [] test h = refl
+last_fault (one ∷ others) test h =
+    let here = passed one.passed (first_fault others) one.fault h in
+    passes_to one.passed (first_fault (others ++ test ∷ [])) one.fault here.0 ∙ last_fault others test here.1
+  where
+    passes_to : {A : Type 0} (b : Bool) (others : Option A) (fault : A) → b ≡ true → cond b others (Some fault) ≡ others
+    passes_to true others fault h = refl
+    passes_to false others fault h = absurd cc
 
 pub length-sealed : (front : List ℕ) → length (sealed front) ≡ length front + 32
 length-sealed front = omega (arith, length-append front (sha256 front), length-sha256 front)

@@ -1,6 +1,6 @@
 -- What bytes say as the code of a frame, and the order in which they are tested.
 use Rattle.std.specs.Prelude.{◌≡◌, ℕ, zero, suc, ◌+◌, ◌*◌, List, [], ◌∷◌, ◌++◌, ◌&&◌, nat_lt, nat_le, ◌==◌, map, take}
-use Rattle.std.specs.Prelude.{drop, slice_index, Result, Ok, Err, if◌then◌else◌}
+use Rattle.std.specs.Prelude.{drop, slice_index, Result, Ok, Err, IsOk, if◌then◌else◌}
 use Rattle.std.specs.Option.{option_map_or}
 use Rattle.std.specs.Int.{w32, w64}
 use Rattle.ss_elem.specs.Validity.{top}
@@ -61,8 +61,8 @@ unfoldable pub frame_read : ℕ → ℕ → List ℕ → Result Frame CodecFault
 frame_read v n bytes = let width = slice_index bytes 22 in
     option_map_or (λ fault. Err fault) (first_fault (frame_tests width v n bytes)) (Ok (frame_at width bytes))
 
--- a reader answers what it should, unless memory runs out
+-- a reader answers what it should, or, of bytes that say a frame, that memory ran out
 abbrev pub GivesFrame : Result Frame FrameFault → Result Frame CodecFault → Type 0
 GivesFrame (Ok f) read = read ≡ Ok f
 GivesFrame (Err (fault.Code why)) read = read ≡ Err why
-GivesFrame (Err fault.Memory) read = Unit {0}
+GivesFrame (Err fault.Memory) read = IsOk read

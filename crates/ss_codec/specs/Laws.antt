@@ -4,6 +4,7 @@ use Rattle.ss_elem.specs.declared.element.Element.{Element}
 use Rattle.ss_codec.specs.declared.frame.Frame.{Frame}
 use Rattle.ss_codec.specs.Frame.{HasCode, IsFrame, frame_bytes}
 use Rattle.ss_codec.specs.FrameTests.{frame_read}
+use Rattle.ss_codec.specs.OldRecords.{old_record, IsOld}
 use Rattle.ss_codec.specs.Record.{HasRecord, record_bytes}
 use Rattle.ss_codec.specs.RecordTests.{record_read}
 
@@ -11,6 +12,12 @@ use Rattle.ss_codec.specs.RecordTests.{record_read}
 abbrev pub RecordsAreReadAgain : Type 0
 RecordsAreReadAgain =
     (v n : ℕ) (x : Element) → v < 2 ^ 32 → n < 2 ^ 64 → HasRecord x → record_read v n (record_bytes v n x) ≡ Ok x
+
+-- a record that was written when rows had two values is the record of its element, and is read as it
+abbrev pub OldRecordsAreRead : Type 0
+OldRecordsAreRead =
+    (v n : ℕ) (x : Element) → v < 2 ^ 32 → n < 2 ^ 64 → HasRecord x → IsOld x
+    → (record_bytes v n x ≡ old_record v n x) × (record_read v n (old_record v n x) ≡ Ok x)
 
 abbrev pub FramesAreReadAgain : Type 0
 FramesAreReadAgain = (f : Frame) → f.v < 2 ^ 32 → f.n < 2 ^ 64 → IsFrame f → frame_read f.v f.n (frame_bytes f) ≡ Ok f

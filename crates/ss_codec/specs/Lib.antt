@@ -3,6 +3,7 @@ pub mod FrameTests
 pub mod Joined
 pub mod Laws
 pub mod Numbers
+pub mod OldRecords
 pub mod Record
 pub mod RecordTests
 pub mod Tests

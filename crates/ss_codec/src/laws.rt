@@ -1,9 +1,14 @@
 ghost use Rattle.ss_codec.specs.Laws.{FramesAreReadAgain, FramesHaveLengths, NoFrameBeginsAnother};
-ghost use Rattle.ss_codec.specs.Laws.{NoRecordBeginsAnother, RecordsAreReadAgain};
+ghost use Rattle.ss_codec.specs.Laws.{NoRecordBeginsAnother, OldRecordsAreRead, RecordsAreReadAgain};
 
 /// A record is read as its element, so what was put is read again.
 pub fn records_are_read_again()
     ensures { RecordsAreReadAgain }
+{}
+
+/// A record that was written when rows had two values is read: it is the record of the row with 0 for the others.
+pub fn old_records_are_read()
+    ensures { OldRecordsAreRead }
 {}
 
 /// No record is a proper part of another from the front on, so a record that lacks its end isn't taken for one.

@@ -18,7 +18,7 @@ pub use frame_reader::get_frame;
 pub use frame_writer::put_frame;
 pub use laws::{
     frames_are_read_again, frames_have_lengths, no_frame_begins_another, no_record_begins_another,
-    records_are_read_again,
+    old_records_are_read, records_are_read_again,
 };
 pub use record::put_element;
 pub use record_reader::get_element;

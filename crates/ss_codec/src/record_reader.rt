@@ -5,12 +5,13 @@ ghost use Rattle.std.specs.List.{take_while};
 ghost use Rattle.ss_elem.specs.declared.element.Element.{Element};
 ghost use Rattle.ss_elem.specs.Key.{is_not_zero};
 ghost use Rattle.ss_codec.specs.Record.{HasRecord, record_bytes};
-ghost use Rattle.ss_codec.specs.RecordTests.{element_at, key_in, record_read, value_tests};
+ghost use Rattle.ss_codec.specs.RecordTests.{element_at, key_in, long_row_at, record_read, row_at, row_tests};
+ghost use Rattle.ss_codec.specs.RecordTests.{value_tests, FourValues, TheEnd, Time, TwoValues};
 ghost use Rattle.ss_codec.specs.Tests.{first_fault, name_tests, seal_tests};
 
 use crate::fault::CodecFault;
 use crate::numbers::{bytes_of_key, i64_at, u32_at, u64_at};
-use crate::record::RECORD_FORM;
+use crate::record::{LONG_FORM, RECORD_FORM};
 use sha2::{Digest, Sha256};
 use ss_elem::{Element, Event, Key};
 
@@ -58,7 +59,12 @@ fn read_record(bytes: &[u8], v: u32, n: u64) -> Result<Element, CodecFault>
             check_name(bytes, v, n)?;
             read_end(bytes)
         }
-        [RECORD_FORM, _, ..] => Err(CodecFault::BadTag { at: 1 }),
+        [LONG_FORM, 0, ..] => {
+            check_seal(bytes, 110)?;
+            check_name(bytes, v, n)?;
+            read_long_row(bytes)
+        }
+        [RECORD_FORM | LONG_FORM, _, ..] => Err(CodecFault::BadTag { at: 1 }),
         [_, _, ..] => Err(CodecFault::BadTag { at: 0 }),
     }
 }
@@ -105,8 +111,45 @@ pub(crate) fn check_name(bytes: &[u8], v: u32, n: u64) -> Result<(), CodecFault>
 #[tactic(auto, unfolding(crate::specs::RecordTests::value_tests, crate::specs::RecordTests::element_at))]
 fn read_row(bytes: &[u8]) -> Result<Element, CodecFault>
     requires { 62 ≤ length bytes.now }
-    ensures fault { result_err result ≡ first_fault (value_tests 0 bytes.now) }
-    ensures row { IfOk result (λ x. x ≡ element_at 0 bytes.now) }
+    ensures fault { result_err result ≡ first_fault (value_tests TwoValues bytes.now) }
+    ensures row { IfOk result (λ x. x ≡ element_at TwoValues bytes.now) }
+{
+    let row = read_two_values(bytes)?;
+    Ok(Element::Row(row))
+}
+
+#[tactic(auto, unfolding(crate::specs::RecordTests::value_tests, crate::specs::RecordTests::element_at))]
+fn read_long_row(bytes: &[u8]) -> Result<Element, CodecFault>
+    requires { 78 ≤ length bytes.now }
+    ensures fault { result_err result ≡ first_fault (value_tests FourValues bytes.now) }
+    ensures row { IfOk result (λ x. x ≡ element_at FourValues bytes.now) }
+{
+    let row = read_four_values(bytes)?;
+    if row.has_two_values() {
+        return Err(CodecFault::BadValue { at: 62 });
+    }
+    Ok(Element::Row(row))
+}
+
+/// The row that the bytes say with all four values.
+fn read_four_values(bytes: &[u8]) -> Result<Event, CodecFault>
+    requires { 78 ≤ length bytes.now }
+    ensures fault { result_err result ≡ first_fault (row_tests bytes.now) }
+    ensures row { IfOk result (λ row. row ≡ long_row_at bytes.now) }
+{
+    let row = read_two_values(bytes)?;
+    Ok(Event {
+        c: i64_at(bytes, 62),
+        d: i64_at(bytes, 70),
+        ..row
+    })
+}
+
+/// The row that the bytes say with its first two values.
+fn read_two_values(bytes: &[u8]) -> Result<Event, CodecFault>
+    requires { 62 ≤ length bytes.now }
+    ensures fault { result_err result ≡ first_fault (row_tests bytes.now) }
+    ensures row { IfOk result (λ row. row ≡ row_at bytes.now) }
 {
     let start = u64_at(bytes, 14);
     let end = u64_at(bytes, 22);
@@ -116,20 +159,22 @@ fn read_row(bytes: &[u8]) -> Result<Element, CodecFault>
     let Some(key) = read_key(&bytes[30..30 + KEY_LEN]) else {
         return Err(CodecFault::BadValue { at: 30 });
     };
-    Ok(Element::Row(Event {
+    Ok(Event {
         start,
         end,
         key,
         a: i64_at(bytes, 46),
         b: i64_at(bytes, 54),
-    }))
+        c: 0,
+        d: 0,
+    })
 }
 
 #[tactic(auto, unfolding(crate::specs::RecordTests::value_tests, crate::specs::RecordTests::element_at))]
 fn read_cti(bytes: &[u8]) -> Result<Element, CodecFault>
     requires { 22 ≤ length bytes.now }
-    ensures fault { result_err result ≡ first_fault (value_tests 1 bytes.now) }
-    ensures cti { IfOk result (λ x. x ≡ element_at 1 bytes.now) }
+    ensures fault { result_err result ≡ first_fault (value_tests Time bytes.now) }
+    ensures cti { IfOk result (λ x. x ≡ element_at Time bytes.now) }
 {
     let time = u64_at(bytes, 14);
     if time == 0 || time >= TOP_TIME {
@@ -140,8 +185,8 @@ fn read_cti(bytes: &[u8]) -> Result<Element, CodecFault>
 
 #[tactic(auto, unfolding(crate::specs::RecordTests::value_tests, crate::specs::RecordTests::element_at))]
 fn read_end(_bytes: &[u8]) -> Result<Element, CodecFault>
-    ensures fault { result_err result ≡ first_fault (value_tests 2 _bytes.now) }
-    ensures end { IfOk result (λ x. x ≡ element_at 2 _bytes.now) }
+    ensures fault { result_err result ≡ first_fault (value_tests TheEnd _bytes.now) }
+    ensures end { IfOk result (λ x. x ≡ element_at TheEnd _bytes.now) }
 {
     Ok(Element::End)
 }

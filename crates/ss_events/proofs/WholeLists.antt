@@ -64,7 +64,7 @@ event-times fields =
     after-both _ _ (time_at 1 fields) _ (time-below 1 fields) (λ start low.
     after-both _ _ (time_at 2 fields) _ (time-below 2 fields) (λ end high.
     after-any _ (key_at 3 fields) _ (λ key.
-    after-any _ (value_at 4 fields) _ (λ a. after-any _ (value_or_zero_at 5 fields) _ (λ b. (low, high)))))))
+    after-any _ (value_at 4 fields) _ (λ a. after-any _ (value_or_zero_at 5 fields) _ (λ b. after-any _ (value_or_zero_at 6 fields) _ (λ c. after-any _ (value_or_zero_at 7 fields) _ (λ d. (low, high)))))))))
 
 -- an element that may follow, with the bound after it, or none and the same bound
 abbrev FollowsAs : ℕ → Option Element → ℕ → Type 0

@@ -1,5 +1,5 @@
 -- Files worked out: their lists and faults.
-use Rattle.std.specs.Prelude.{◌≡◌, [], ◌∷◌, Ok, Err, codes, pos, refl}
+use Rattle.std.specs.Prelude.{◌≡◌, [], ◌∷◌, Ok, Err, codes, pos, negsuc, refl}
 use Rattle.csv.proofs.OnLiterals.{csv_on_literals}
 use Rattle.csv.specs.Records.{field_at}
 use Rattle.ss_elem.specs.Key.{key_number}
@@ -10,9 +10,26 @@ use Rattle.ss_events.specs.declared.fault.EventWhy.TheVariants.{AfterEnd, Backwa
 use Rattle.ss_events.specs.declared.late.Late.TheVariants.{Drop, Refuse}
 
 whole-file : event_list (codes "kind,start,end,key,a\nevent,5,9,k,3\ncti,10,,,,\ncti,10\nend,,,,,\n") Refuse
-    ≡ Ok (Row (record { start = 5; end = 9; key = key_number (codes "k"); a = pos 3; b = pos 0 }) ∷ Cti 10 ∷ End ∷ [])
+    ≡ Ok (Row (record { start = 5; end = 9; key = key_number (codes "k"); a = pos 3; b = pos 0; c = pos 0; d = pos 0 }) ∷ Cti 10 ∷ End ∷ [])
 unfolding csv_on_literals field_at elements_from row_after event_row event_of cti_row end_row
 whole-file = refl
+
+four-values : event_list (codes "kind,start,end,key,a,b,c,d\nevent,5,9,k,3,,7\nevent,6,9,k,3,0,,-4\ncti,10,,,,,,\nend,,,,,,,\n") Refuse
+    ≡ Ok (
+    Row (record { start = 5; end = 9; key = key_number (codes "k"); a = pos 3; b = pos 0; c = pos 7; d = pos 0 })
+    ∷ Row (record { start = 6; end = 9; key = key_number (codes "k"); a = pos 3; b = pos 0; c = pos 0; d = negsuc 3 })
+    ∷ Cti 10 ∷ End ∷ []
+    )
+unfolding csv_on_literals field_at elements_from row_after event_row event_of cti_row end_row
+four-values = refl
+
+nine-fields : event_list (codes "event,5,9,k,3,0,7,0,\n") Refuse ≡ Err (record { row = 1; why = BadCount })
+unfolding csv_on_literals field_at elements_from row_after event_row event_of
+nine-fields = refl
+
+header-without-c : event_list (codes "kind,start,end,key,a,b,d\n") Refuse ≡ Err (record { row = 1; why = BadKind })
+unfolding csv_on_literals field_at elements_from row_after
+header-without-c = refl
 
 empty-file : event_list [] Refuse ≡ Ok (End ∷ [])
 unfolding csv_on_literals elements_from

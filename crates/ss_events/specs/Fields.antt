@@ -42,9 +42,9 @@ is_none_or_empty (Some field) = is_empty field
 abbrev pub is_blank : ℕ → List (List ℕ) → Bool
 is_blank place fields = is_none_or_empty (field_at fields place)
 
--- the row has at least so many fields, and at most six
+-- the row has at least so many fields, and at most eight
 abbrev pub has_count : ℕ → List (List ℕ) → Result (Unit {0}) EventWhy
-has_count least fields = check BadCount (nat_le least (length fields) && nat_le (length fields) 6)
+has_count least fields = check BadCount (nat_le least (length fields) && nat_le (length fields) 8)
 
 -- all fields from this place on are empty
 abbrev pub is_padding : ℕ → List (List ℕ) → Result (Unit {0}) EventWhy

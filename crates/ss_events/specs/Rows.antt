@@ -44,7 +44,7 @@ cti_given bound time =
     if nat_lt time bound then Err (BackwardCti time bound)
     else (if time == bound then Ok (None, bound) else Ok (Some (element.Cti time), time))
 
--- event,START,END,KEY,A,B, with B missing or empty for 0
+-- event,START,END,KEY,A,B,C,D, with each of B, C and D missing or empty for 0
 unfoldable pub event_of : List (List ℕ) → Result Event EventWhy
 event_of fields = do
   has_count 5 fields
@@ -53,7 +53,9 @@ event_of fields = do
   key ← key_at 3 fields
   a ← value_at 4 fields
   b ← value_or_zero_at 5 fields
-  Ok (record { start = start; end = end; key = key; a = a; b = b })
+  c ← value_or_zero_at 6 fields
+  d ← value_or_zero_at 7 fields
+  Ok (record { start = start; end = end; key = key; a = a; b = b; c = c; d = d })
 
 -- a row of an event
 unfoldable pub event_row : Late → ℕ → List (List ℕ) → Result Given EventWhy
@@ -96,12 +98,20 @@ row_after late bound fields = do
   named ← kind_of fields
   row_by named late bound fields
 
--- kind,start,end,key,a,b or the same without b
+-- behind a of a header: nothing, or b, or b,c, or b,c,d
+abbrev pub has_last_names : List (List ℕ) → Bool
+has_last_names fields =
+    length fields == 5
+    || (length fields == 6 && has_text 5 (codes "b") fields)
+    || (length fields == 7 && has_text 5 (codes "b") fields && has_text 6 (codes "c") fields)
+    || (length fields == 8 && has_text 5 (codes "b") fields && has_text 6 (codes "c") fields
+    && has_text 7 (codes "d") fields)
+
+-- kind,start,end,key,a,b,c,d or the same without the last, the last two or the last three
 abbrev pub is_header : List (List ℕ) → Bool
 is_header fields =
     has_text 0 (codes "kind") fields && has_text 1 (codes "start") fields && has_text 2 (codes "end") fields
-    && has_text 3 (codes "key") fields && has_text 4 (codes "a") fields
-    && (length fields == 5 || (length fields == 6 && has_text 5 (codes "b") fields))
+    && has_text 3 (codes "key") fields && has_text 4 (codes "a") fields && has_last_names fields
 
 -- the row with this number, which may be the header where it is the first
 abbrev pub row_given : Late → ℕ → ℕ → List (List ℕ) → Result Given EventWhy

@@ -10,7 +10,7 @@ use crate::number;
 use csv::ByteRecord;
 use ss_elem::Key;
 
-const MOST_FIELDS: usize = 6;
+const MOST_FIELDS: usize = 8;
 
 /// Whether the field at this place has this text.
 pub(crate) fn has_text(row: &ByteRecord, place: usize, text: &[u8]) -> bool

@@ -16,10 +16,11 @@ const MOST_ROWS: u64 = 131_072;
 
 /// The elements of an event file, or the first of its rows that is refused.
 ///
-/// Rows are `event,START,END,KEY,A,B`, where B may be missing or empty for 0, `cti,T` and `end`, these two
-/// with empty fields behind them, up to six in all. The first row may be a header, `kind,start,end,key,a,b`
-/// or the same without `b`. Times are below 2^62, values in `i64`, and a file has at most 131,072 rows. A
-/// `cti` with the time of the last one gives no element, and a list without an `end` is ended all the same.
+/// Rows are `event,START,END,KEY,A,B,C,D`, where each of B, C and D may be missing or empty for 0, `cti,T` and
+/// `end`, these two with empty fields behind them, up to eight in all. The first row may be a header,
+/// `kind,start,end,key,a,b,c,d` or the same without the last, the last two or the last three. Times are below
+/// 2^62, values in `i64`, and a file has at most 131,072 rows. A `cti` with the time of the last one gives no
+/// element, and a list without an `end` is ended all the same.
 pub fn read_events(alloc: Global, bytes: &[u8], late: Late) -> Result<Vec<Element>, EventsFault>
     ensures exact { AnswersReading (λ list. list.items) result (event_list bytes.now late) }
     ensures whole { IfOk result (λ list. Whole list.items) }

@@ -45,7 +45,23 @@ fn is_header(row: &ByteRecord) -> bool
         && has_text(row, 2, b"end".as_slice())
         && has_text(row, 3, b"key".as_slice())
         && has_text(row, 4, b"a".as_slice())
-        && (row.len() == 5 || row.len() == 6 && has_text(row, 5, b"b".as_slice()))
+        && has_last_names(row)
+}
+
+/// Whether the names behind `a` are those of a header that has so many fields.
+fn has_last_names(row: &ByteRecord) -> bool
+    ensures { result ≡ spec.has_last_names (fields_of row.now) }
+{
+    let b = has_text(row, 5, b"b".as_slice());
+    let c = has_text(row, 6, b"c".as_slice());
+    let d = has_text(row, 7, b"d".as_slice());
+    match row.len() {
+        5 => true,
+        6 => b,
+        7 => b && c,
+        8 => b && c && d,
+        _ => false,
+    }
 }
 
 #[tactic(auto, unfolding(crate::specs::Rows::row_after))]
@@ -94,12 +110,16 @@ fn event_of(row: &ByteRecord) -> Result<Event, EventWhy>
     let key = key_at(row, 3)?;
     let a = value_at(row, 4)?;
     let b = value_or_zero_at(row, 5)?;
+    let c = value_or_zero_at(row, 6)?;
+    let d = value_or_zero_at(row, 7)?;
     Ok(Event {
         start,
         end,
         key,
         a,
         b,
+        c,
+        d,
     })
 }
 

@@ -168,6 +168,8 @@ atom_readable atom.End h = fixed (token.Atom atom.End) 101 (110 ∷ 100 ∷ []) 
 atom_readable atom.Subject h = fixed (token.Atom atom.Subject) 107 (101 ∷ 121 ∷ []) refl refl (λ rest. refl)
 atom_readable atom.A h = fixed (token.Atom atom.A) 97 [] refl refl (λ rest. refl)
 atom_readable atom.B h = fixed (token.Atom atom.B) 98 [] refl refl (λ rest. refl)
+atom_readable atom.C h = fixed (token.Atom atom.C) 99 [] refl refl (λ rest. refl)
+atom_readable atom.D h = fixed (token.Atom atom.D) 100 [] refl refl (λ rest. refl)
 
 pub operator_readable : (op : BinaryOp) → Readable (token.Operator op)
 operator_readable (Connect Or) = fixed (token.Operator (Connect Or)) 111 (114 ∷ []) refl refl (λ rest. refl)

@@ -19,6 +19,12 @@ a_at at = leaf at atom.A
 abbrev b_at : ℕ → Tree
 b_at at = leaf at atom.B
 
+abbrev c_at : ℕ → Tree
+c_at at = leaf at atom.C
+
+abbrev d_at : ℕ → Tree
+d_at at = leaf at atom.D
+
 abbrev fault : ℕ → ExprWhy → Result Tree ExprFault
 fault at why = Err (record { at = at; why = why })
 
@@ -52,6 +58,12 @@ minus_first = refl
 quoted : expression_of (codes "key='k'")
     ≡ Ok (binary (Compare Equal) 3 (leaf 0 atom.Subject) (leaf 4 (atom.Text 0x6B000000000000000000000000000000)))
 quoted = refl
+
+last_two_values : expression_of (codes "c - d") ≡ Ok (binary (Compute Subtract) 2 (c_at 0) (d_at 4))
+last_two_values = refl
+
+no_fifth_value : expression_of (codes "c + e") ≡ fault 4 BadToken
+no_fifth_value = refl
 
 no_second_comparison : expression_of (codes "a = b = a") ≡ fault 6 Unexpected
 no_second_comparison = refl

@@ -15,7 +15,7 @@ use Rattle.ss_expr.specs.declared.kind.ValueKind.TheVariants as kind
 use Rattle.ss_expr.specs.declared.stream_operator.Agg.{Agg}
 use Rattle.ss_expr.specs.declared.stream_operator.Agg.TheVariants.{Sum, Least, Greatest}
 use Rattle.ss_expr.specs.declared.stream_operator.Field.{Field}
-use Rattle.ss_expr.specs.declared.stream_operator.Field.TheVariants.{A, B}
+use Rattle.ss_expr.specs.declared.stream_operator.Field.TheVariants.{A, B, C, D}
 use Rattle.ss_expr.specs.declared.stream_operator.Spec.{Spec}
 use Rattle.ss_expr.specs.declared.stream_operator.Spec.TheVariants.{Select, Union, Window, Join}
 use Rattle.ss_expr.specs.declared.value.Value.{Value}
@@ -46,19 +46,26 @@ aggregate_of Greatest = greatest
 abbrev pub field_of : Field → Event → ℤ
 field_of A row = row.a
 field_of B row = row.b
+field_of C row = row.c
+field_of D row = row.d
 
--- what a select with these expressions does: both new values are computed from the old ones
-abbrev pub selection_of : Option Tree → Tree → Tree → Selection
-selection_of test a b =
-    record { test = passes test; a = λ row. as_number (value_of a row); b = λ row. as_number (value_of b row) }
+-- what a select with these expressions does: all four new values are computed from the old ones
+abbrev pub selection_of : Option Tree → Tree → Tree → Tree → Tree → Selection
+selection_of test a b c d = record {
+  test = passes test;
+  a = λ row. as_number (value_of a row);
+  b = λ row. as_number (value_of b row);
+  c = λ row. as_number (value_of c row);
+  d = λ row. as_number (value_of d row);
+}
 
 -- the row that such a select gives for a row, where it gives one
-abbrev pub selected : Option Tree → Tree → Tree → Event → Option Event
-selected test a b row = if passes test row then Some (revalued (selection_of test a b) row) else None
+abbrev pub selected : Option Tree → Tree → Tree → Tree → Tree → Event → Option Event
+selected test a b c d row = if passes test row then Some (revalued (selection_of test a b c d) row) else None
 
 -- the operator that a spec says: a select by the values of its expressions, a window by its aggregate and its field
 abbrev pub operator_of : Spec → Kind
-operator_of (Select test a b) = meaning.Select (selection_of test a b)
+operator_of (Select test a b c d) = meaning.Select (selection_of test a b c d)
 operator_of Union = meaning.Union
 operator_of (Window size hop agg of) =
     meaning.Hopping (record { size = size; hop = hop; aggregate = aggregate_of agg; field = field_of of })
@@ -78,14 +85,15 @@ IsTest test = IfSome test (λ e. HasKind e kind.Truth)
 
 -- a spec can be computed: a select's expressions are of the right kinds, and a window has whole hops
 abbrev pub IsComputable : Spec → Type 0
-IsComputable (Select test a b) = IsTest test × HasKind a kind.Num × HasKind b kind.Num
+IsComputable (Select test a b c d) =
+    IsTest test × HasKind a kind.Num × HasKind b kind.Num × HasKind c kind.Num × HasKind d kind.Num
 IsComputable Union = Unit {0}
 IsComputable (Window size hop agg of) = HasWholeHops size hop
 IsComputable Join = Unit {0}
 
 -- a select and a union give at each element what it alone says
 abbrev pub is_row_by_row : Spec → Bool
-is_row_by_row (Select test a b) = true
+is_row_by_row (Select test a b c d) = true
 is_row_by_row Union = true
 is_row_by_row (Window size hop agg of) = false
 is_row_by_row Join = false

@@ -30,6 +30,8 @@ atom_text atom.End = codes "end"
 atom_text atom.Subject = codes "key"
 atom_text atom.A = codes "a"
 atom_text atom.B = codes "b"
+atom_text atom.C = codes "c"
+atom_text atom.D = codes "d"
 
 abbrev pub operator_text : BinaryOp → List ℕ
 operator_text (Connect Or) = codes "or"

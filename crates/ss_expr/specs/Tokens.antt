@@ -29,6 +29,8 @@ words =
     ∷ (codes "key", token.Atom atom.Subject)
     ∷ (codes "a", token.Atom atom.A)
     ∷ (codes "b", token.Atom atom.B)
+    ∷ (codes "c", token.Atom atom.C)
+    ∷ (codes "d", token.Atom atom.D)
     ∷ (codes "and", token.Operator (Connect And))
     ∷ (codes "or", token.Operator (Connect Or))
     ∷ (codes "not", token.Not)

@@ -56,6 +56,8 @@ atom_value atom.End x = Num (pos x.end)
 atom_value atom.Subject x = Text x.key
 atom_value atom.A x = Num x.a
 atom_value atom.B x = Num x.b
+atom_value atom.C x = Num x.c
+atom_value atom.D x = Num x.d
 
 abbrev pub unary_value : UnaryOp → Value → Value
 unary_value Negate (Num n) = Num (clamp (neg_ℤ n))

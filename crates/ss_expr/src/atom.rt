@@ -17,4 +17,8 @@ pub enum Atom {
     A,
     /// The event's second value.
     B,
+    /// The event's third value.
+    C,
+    /// The event's fourth value.
+    D,
 }

@@ -107,6 +107,8 @@ fn number_of_atom(atom: Atom, x: &Event) -> i64
         Atom::End => x.end as i64,
         Atom::A => x.a,
         Atom::B => x.b,
+        Atom::C => x.c,
+        Atom::D => x.d,
         Atom::Text(_) | Atom::Subject => unreachable!(),
     }
 }
@@ -118,7 +120,8 @@ fn text_of_atom(atom: Atom, x: &Event) -> Key
     match atom {
         Atom::Text(text) => text,
         Atom::Subject => x.key,
-        Atom::Number(_) | Atom::Start | Atom::End | Atom::A | Atom::B => unreachable!(),
+        Atom::Number(_) | Atom::Start | Atom::End => unreachable!(),
+        Atom::A | Atom::B | Atom::C | Atom::D => unreachable!(),
     }
 }
 

@@ -59,7 +59,8 @@ fn kind_of_atom(atom: Atom) -> ValueKind
 {
     match atom {
         Atom::Text(_) | Atom::Subject => ValueKind::Text,
-        Atom::Number(_) | Atom::Start | Atom::End | Atom::A | Atom::B => ValueKind::Num,
+        Atom::Number(_) | Atom::Start | Atom::End => ValueKind::Num,
+        Atom::A | Atom::B | Atom::C | Atom::D => ValueKind::Num,
     }
 }
 

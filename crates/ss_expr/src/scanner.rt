@@ -55,6 +55,10 @@ fn word_of(name: &[u8]) -> Option<Token>
         Some(Token::Atom(Atom::A))
     } else if name == b"b".as_slice() {
         Some(Token::Atom(Atom::B))
+    } else if name == b"c".as_slice() {
+        Some(Token::Atom(Atom::C))
+    } else if name == b"d".as_slice() {
+        Some(Token::Atom(Atom::D))
     } else if name == b"and".as_slice() {
         Some(Token::Operator(BinaryOp::Connect(Connective::And)))
     } else if name == b"or".as_slice() {

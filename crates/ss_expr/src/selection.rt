@@ -11,12 +11,19 @@ use crate::expr::Expr;
 use crate::stream_operator::Spec;
 use ss_elem::{Element, Event};
 
-/// The row that a select gives for a row: the same row with both values computed from the old ones, where its test
+/// The row that a select gives for a row: the same row with all four values computed from the old ones, where its test
 /// holds or there is none.
-pub fn select(test: &Option<Expr>, a: &Expr, b: &Expr, row: &Event) -> Option<Event>
-    requires computable { IsComputable (Select test.now a.now b.now) }
+pub fn select(
+    test: &Option<Expr>,
+    a: &Expr,
+    b: &Expr,
+    c: &Expr,
+    d: &Expr,
+    row: &Event,
+) -> Option<Event>
+    requires computable { IsComputable (Select test.now a.now b.now c.now d.now) }
     requires times { HasShortTimes row.now }
-    ensures { result ≡ selected test.now a.now b.now row.now }
+    ensures { result ≡ selected test.now a.now b.now c.now d.now row.now }
 {
     if !does_pass(test, row) {
         return None;
@@ -27,6 +34,8 @@ pub fn select(test: &Option<Expr>, a: &Expr, b: &Expr, row: &Event) -> Option<Ev
         key: row.key,
         a: number(a, row),
         b: number(b, row),
+        c: number(c, row),
+        d: number(d, row),
     })
 }
 
@@ -62,7 +71,7 @@ fn row_for(spec: &Spec, row: &Event) -> Option<Event>
     ensures { AreRowsAt spec.now (Row row.now) (option_to_list result) }
 {
     match spec {
-        Spec::Select { test, a, b } => select(test, a, b, row),
+        Spec::Select { test, a, b, c, d } => select(test, a, b, c, d, row),
         Spec::Union => Some(*row),
         Spec::Window { .. } => unreachable!(),
         Spec::Join => unreachable!(),

@@ -6,11 +6,13 @@ use std::alloc::{AllocError, Global};
 /// What a vertex computes.
 #[derive(Drop)]
 pub enum Spec {
-    /// Each row for which `test` holds, where there is one, with the values of `a` and `b`.
+    /// Each row for which `test` holds, where there is one, with the values of `a`, `b`, `c` and `d`.
     Select {
         test: Option<Expr>,
         a: Expr,
         b: Expr,
+        c: Expr,
+        d: Expr,
     },
     /// The rows of all inputs.
     Union,
@@ -31,11 +33,13 @@ impl Spec {
         ensures { IfOk result (λ spec. spec ≡ self.now) }
     {
         match self {
-            Spec::Select { test, a, b } => {
+            Spec::Select { test, a, b, c, d } => {
                 let test = copied_test(alloc, test)?;
                 let a = a.copied(alloc)?;
                 let b = b.copied(alloc)?;
-                Ok(Spec::Select { test, a, b })
+                let c = c.copied(alloc)?;
+                let d = d.copied(alloc)?;
+                Ok(Spec::Select { test, a, b, c, d })
             }
             Spec::Union => Ok(Spec::Union),
             Spec::Window { size, hop, agg, of } => Ok(Spec::Window {
@@ -79,4 +83,8 @@ pub enum Field {
     A,
     /// The second.
     B,
+    /// The third.
+    C,
+    /// The fourth.
+    D,
 }

@@ -1,6 +1,7 @@
 use Rattle.std.proofs.Common.{ap, ◌∙◌, arith}
 use Rattle.ss_codec.specs.RecordTests.{record_read}
-use Rattle.ss_codec.proofs.Records.{read_is_record, record_is_read, short_is_refused}
+use Rattle.ss_codec.proofs.RecordReads.{record_is_read}
+use Rattle.ss_codec.proofs.Records.{read_is_record, short_is_refused}
 use Rattle.ss_codec.proofs.record_reader.get_element.Goals as goal
 
 pub returns-clause-ok : goal.returns-clause-ok
