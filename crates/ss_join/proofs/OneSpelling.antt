@@ -1,7 +1,7 @@
 -- Bytes that are read as an image are the image of what is read.
 use Rattle.std.proofs.Common.{◌≡◌, ℕ, zero, suc, ◌+◌, ◌*◌, ◌^◌, ◌<◌, ◌≤◌, ◌==◌, Bool, true, false, cond, not, ◌&&◌, List, [], ◌∷◌, ◌++◌, length, take, drop, Option, Some, None, Result, Ok, Err, ℤ, pos, refl, sym, ap, subst, ◌∙◌, arith, append_assoc, eqb-true}
 use Rattle.std.specs.Prelude.{slice_index, nat_abs}
-use Rattle.std.specs.Int.{w64, cast_signed, cast_unsigned}
+use Rattle.std.specs.Int.{w64, cast_unsigned}
 use Rattle.std.specs.List.{flat_map, list_all}
 use Rattle.std.specs.Option.{option_map_or}
 use Rattle.std.proofs.Math.Facts.{sfits_to_z}
@@ -20,7 +20,7 @@ use Rattle.ss_image.specs.Images.{narrow_bytes, wide_bytes, row_bytes, row_len, 
 use Rattle.ss_join.specs.ImageTests.{row_in, row_read, rows_read, with_first, both_sides, is_open_span, value_at, wide_value}
 use Rattle.ss_join.specs.ImageTests.{has_whole_rows, say_two_values, form_in, sides_read, image_read, left_count, right_count, row_count, right_place}
 use Rattle.ss_join.specs.States.{Sides}
-use Rattle.ss_join.proofs.Spellings.{unsigned_zero, no_both}
+use Rattle.ss_join.proofs.Spellings.{unsigned_zero}
 
 bytes-drop : (n : ℕ) (bytes : List ℕ) → AreBytes bytes → AreBytes (drop n bytes)
 bytes-drop n bytes h i = rw get_or-drop (h (n + i))

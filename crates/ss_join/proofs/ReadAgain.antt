@@ -1,7 +1,6 @@
 -- Rows that may stand in an image are read from it.
-use Rattle.std.proofs.Common.{◌≡◌, ℕ, ◌+◌, ◌*◌, ◌^◌, ◌≤◌, ◌<◌, ◌==◌, nat_lt, Bool, true, false, cond, not, ◌&&◌, List, [], ◌∷◌, ◌++◌, length, drop, Option, Some, None, Result, Ok, Err, refl, sym, ap, subst, ◌∙◌, arith, ltb-true, eq-eqb, eqb-true, ℤ, pos, FitsSigned}
+use Rattle.std.proofs.Common.{◌≡◌, ℕ, ◌+◌, ◌*◌, ◌^◌, ◌≤◌, ◌<◌, ◌==◌, nat_lt, Bool, true, false, cond, not, ◌&&◌, List, [], ◌∷◌, ◌++◌, length, drop, Option, Some, None, Result, Ok, Err, refl, sym, ap, ◌∙◌, arith, ltb-true, eq-eqb}
 use Rattle.std.specs.Prelude.{slice_index, nat_abs}
-use Rattle.std.specs.Int.{w64, cast_signed, cast_unsigned}
 use Rattle.std.proofs.lemmas.Bool.{and_parts, and_from, cond-true, ne_eqb}
 use Rattle.std.proofs.lemmas.List.{append_assoc, append-nil, length-append, drop_at, drop-drop}
 use Rattle.std.proofs.lemmas.List.Elements.{recursion_from_All}
@@ -16,12 +15,12 @@ use Rattle.ss_image.specs.declared.row_form.RowForm.{RowForm}
 use Rattle.ss_image.specs.declared.row_form.RowForm.TheVariants.{Narrow, Wide}
 use Rattle.ss_image.specs.Numbers.{number_bytes, number_at}
 use Rattle.ss_image.specs.NumberLaws.{NumbersAreReadAgain}
-use Rattle.ss_image.specs.Images.{row_bytes, row_len, form_of, image_in, join_image}
-use Rattle.ss_join.specs.ImageTests.{row_in, row_read, rows_read, with_first, both_sides, is_open_span, wide_value, value_at}
+use Rattle.ss_image.specs.Images.{row_bytes, row_len, image_in, join_image}
+use Rattle.ss_join.specs.ImageTests.{row_in, row_read, rows_read, with_first, both_sides, is_open_span}
 use Rattle.ss_join.specs.ImageTests.{has_whole_rows, say_two_values, form_in, sides_read, image_read, left_count, right_count, row_count, right_place}
 use Rattle.ss_join.specs.ImageLaws.{MayStand, SidesAreReadAgain, NarrowImagesAreRead}
 use Rattle.ss_join.specs.States.{Sides}
-use Rattle.ss_join.proofs.Spellings.{Fits, HasParts, row_bytes-parts, row_in-bytes, length-row_bytes, wide_says, unsigned_zero, no_both}
+use Rattle.ss_join.proofs.Spellings.{Fits, row_bytes-parts, row_in-bytes, length-row_bytes, wide_says, unsigned_zero, no_both}
 
 -- a row that may stand in an image of a form
 abbrev MayStandIn : RowForm → ℕ → Event → Type 0

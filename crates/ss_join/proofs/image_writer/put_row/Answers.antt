@@ -1,9 +1,10 @@
-use Rattle.std.proofs.Common.{◌≡◌, ℕ, List, ◌++◌, ap, ◌∙◌, ℤ}
+use Rattle.std.proofs.Common.{◌≡◌, ℕ, List, ◌++◌, sym, ap, ◌∙◌, ℤ}
 use Rattle.std.proofs.lemmas.List.{append_assoc}
 use Rattle.std.proofs.lemmas.Int.{to_z-of_z}
 use Rattle.std.specs.Int.{w64, cast_unsigned}
 use Rattle.ss_image.specs.Numbers.{number_bytes}
-use Rattle.ss_image.specs.Images.{narrow_bytes, wide_bytes}
+use Rattle.ss_image.specs.declared.row_form.RowForm.{RowForm}
+use Rattle.ss_image.specs.Images.{narrow_bytes, wide_bytes, row_bytes}
 use Rattle.ss_join.proofs.image_writer.put_row.Goals as goal
 
 regrouped : (old a b c : List ℕ) → old ++ a ++ b ++ c ≡ old ++ (a ++ b ++ c)
@@ -24,3 +25,4 @@ returns-in-Wide-clause-items c =
     c.put_narrow.ensures.items
     (c.put_value.ensures.items ∙ ap (λ (v : ℤ). c.put_narrow.new.out.items ++ bytes v) third)
     (c.put_value-in-Wide.ensures.items ∙ ap (λ (v : ℤ). c.put_value.new.out.items ++ bytes v) fourth)
+    ∙ ap (λ (form : RowForm). c.args.out.now.items ++ row_bytes form row) (sym c.in-Wide.is)
