@@ -8,8 +8,10 @@ use Rattle.byteorder.specs.Numbers.{length-bytes_high_first}
 use Rattle.ss_elem.specs.Key.{is_not_zero, key_text}
 use Rattle.ss_elem.specs.declared.element.Event.{Event}
 use Rattle.ss_meaning.specs.Entries.{WindowEntry}
-use Rattle.ss_image.specs.Images.{entry_bytes, row_bytes, window_image, join_image}
-use Rattle.ss_image.specs.Laws.{WindowImagesHaveLengths, JoinImagesHaveLengths}
+use Rattle.ss_image.specs.declared.row_form.RowForm.{RowForm}
+use Rattle.ss_image.specs.declared.row_form.RowForm.TheVariants.{Narrow, Wide}
+use Rattle.ss_image.specs.Images.{entry_bytes, narrow_bytes, wide_bytes, row_bytes, row_len, form_of, image_in, window_image, join_image}
+use Rattle.ss_image.specs.Laws.{WindowImagesHaveLengths, JoinImagesHaveLengths, JoinImagesAreShort}
 use Rattle.ss_image.specs.Numbers.{number_bytes, key_bytes}
 
 pub length-number_bytes : (len n : ℕ) → length (number_bytes len n) ≡ len
@@ -40,9 +42,9 @@ length-entry_bytes e =
       length-number_bytes 8 e.rows,
     )
 
-pub length-row_bytes : (row : Event) → length (row_bytes row) ≡ 48
-unfolding row_bytes
-length-row_bytes row =
+length-narrow_bytes : (row : Event) → length (narrow_bytes row) ≡ 48
+unfolding narrow_bytes
+length-narrow_bytes row =
     let s = number_bytes 8 row.start in
     let e = number_bytes 8 row.end in
     let k = key_bytes row.key in
@@ -61,6 +63,24 @@ length-row_bytes row =
       length-number_bytes 8 (cast_unsigned w64 row.b),
     )
 
+length-wide_bytes : (row : Event) → length (wide_bytes row) ≡ 64
+unfolding wide_bytes
+length-wide_bytes row =
+    let c = number_bytes 8 (cast_unsigned w64 row.c) in
+    let d = number_bytes 8 (cast_unsigned w64 row.d) in
+    omega (
+      arith,
+      length-append (narrow_bytes row ++ c) d,
+      length-append (narrow_bytes row) c,
+      length-narrow_bytes row,
+      length-number_bytes 8 (cast_unsigned w64 row.c),
+      length-number_bytes 8 (cast_unsigned w64 row.d),
+    )
+
+length-row_bytes : (form : RowForm) (row : Event) → length (row_bytes form row) ≡ row_len form
+length-row_bytes Narrow row = length-narrow_bytes row
+length-row_bytes Wide row = length-wide_bytes row
+
 -- pieces of one length, one behind the other
 pub length-pieces : {A : Type 0} (f : A → List ℕ) (size : ℕ) → ((x : A) → length (f x) ≡ size) → (xs : List A) → length (flat_map f xs) ≡ size * length xs
 length-pieces f size h [] = omega arith
@@ -76,13 +96,12 @@ window_lengths entries =
       length-pieces entry_bytes 48 length-entry_bytes entries,
     )
 
-pub join_lengths : JoinImagesHaveLengths
-unfolding join_image
-join_lengths left right =
+length-image_in : (form : RowForm) (left right : List Event) → length (image_in form left right) ≡ 8 + (row_len form * length left + row_len form * length right)
+length-image_in form left right =
     let l = number_bytes 4 (length left) in
     let r = number_bytes 4 (length right) in
-    let ls = flat_map row_bytes left in
-    let rs = flat_map row_bytes right in
+    let ls = flat_map (row_bytes form) left in
+    let rs = flat_map (row_bytes form) right in
     omega (
       arith,
       length-append (l ++ r ++ ls) rs,
@@ -90,6 +109,22 @@ join_lengths left right =
       length-append l r,
       length-number_bytes 4 (length left),
       length-number_bytes 4 (length right),
-      length-pieces row_bytes 48 length-row_bytes left,
-      length-pieces row_bytes 48 length-row_bytes right,
+      length-pieces (row_bytes form) (row_len form) (length-row_bytes form) left,
+      length-pieces (row_bytes form) (row_len form) (length-row_bytes form) right,
     )
+
+both : (form : RowForm) (left right : List Event) → length (image_in form left right) ≡ 8 + row_len form * (length left + length right)
+both Narrow left right = omega (arith, length-image_in Narrow left right)
+both Wide left right = omega (arith, length-image_in Wide left right)
+
+most : (form : RowForm) (left right : List Event) → length (image_in form left right) ≤ 8 + 64 * (length left + length right)
+most Narrow left right = omega (arith, length-image_in Narrow left right)
+most Wide left right = omega (arith, length-image_in Wide left right)
+
+pub join_lengths : JoinImagesHaveLengths
+unfolding join_image
+join_lengths left right = both (form_of (left ++ right)) left right
+
+pub join_short : JoinImagesAreShort
+unfolding join_image
+join_short left right = most (form_of (left ++ right)) left right

@@ -1,9 +1,14 @@
 -- Numbers and keys in bytes, and where they stand.
-use Rattle.std.specs.Prelude.{ℕ, ◌-◌, if◌then◌else◌, List, ◌++◌, length, drop, replicate, bytes_eq, Option, Some, None}
+use Rattle.std.specs.Prelude.{ℕ, ◌-◌, ◌<◌, if◌then◌else◌, List, ◌++◌, length, drop, slice_index, replicate, bytes_eq}
+use Rattle.std.specs.Prelude.{Option, Some, None}
 use Rattle.std.specs.List.{take_while}
 use Rattle.std.specs.Option.{option_and_then}
 use Rattle.byteorder.specs.Endian.{big_bytes, big_number}
 use Rattle.ss_elem.specs.Key.{is_not_zero, key_of, key_text}
+
+-- each of these numbers is a byte
+abbrev pub AreBytes : List ℕ → Type 0
+AreBytes bytes = (i : ℕ) → slice_index bytes i < 256
 
 -- a number in so many bytes, the highest first
 unfoldable pub number_bytes : ℕ → ℕ → List ℕ

@@ -59,10 +59,10 @@ entries_read-done hop agg low n at es bytes h =
 
 -- what is read stands in order
 
-same_ok : (es fs : List WindowEntry) → ◌≡◌ {A = Result (List WindowEntry) ℕ} (Ok es) (Ok fs) → es ≡ fs
+pub same_ok : (es fs : List WindowEntry) → ◌≡◌ {A = Result (List WindowEntry) ℕ} (Ok es) (Ok fs) → es ≡ fs
 same_ok es fs h = cc
 
-err_ok : (at : ℕ) (es : List WindowEntry) → ◌≡◌ {A = Result (List WindowEntry) ℕ} (Err at) (Ok es) → ⊥
+pub err_ok : (at : ℕ) (es : List WindowEntry) → ◌≡◌ {A = Result (List WindowEntry) ℕ} (Err at) (Ok es) → ⊥
 err_ok at es h = cc
 
 entry_read-follows : (hop : ℕ) (agg : Agg) (low : ℕ) (previous : Option WindowEntry) (bytes : List ℕ) (e : WindowEntry)

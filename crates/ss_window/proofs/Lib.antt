@@ -14,3 +14,4 @@ pub mod EntryReads
 pub mod Spellings
 pub mod ReadAgain
 pub mod StateImages
+pub mod OneSpelling

@@ -15,7 +15,7 @@ use crate::panes::Panes;
 use crate::puts::put_all;
 use ss_elem::{Bound, Element, Event, Out};
 use ss_expr::{Agg, Field};
-use ss_image::ImageFault;
+use ss_image::{ImageFault, numbers_have_one_spelling};
 use ss_meaning::{entries_are_in_order, entries_follow};
 use std::alloc::{AllocError, Global};
 use std::marker::Model;
@@ -135,8 +135,11 @@ impl Window {
         requires { HasWholeHops size hop }
         ensures settings { IfOk result (λ w. w.settings ≡ record { size = size; hop = hop; agg = agg; field = of }) }
         ensures ok { IfOk result (λ w. image_read hop agg low bytes.now ≡ Ok w.entries) }
+        // Bytes that are taken are the image of what is remembered then, so no state has two images.
+        ensures spelling { IfOk result (λ w. bytes.now ≡ window_image w.entries) }
         ensures fault { IfErr result (λ fault. Fails fault (image_read hop agg low bytes.now)) }
     {
+        numbers_have_one_spelling();
         let panes = read_image(alloc, hop, agg, low.get(), bytes)?;
         Ok(Window {
             size,
