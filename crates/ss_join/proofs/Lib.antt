@@ -9,3 +9,4 @@ pub mod RowReads
 pub mod Spellings
 pub mod ReadAgain
 pub mod StateImages
+pub mod OneSpelling

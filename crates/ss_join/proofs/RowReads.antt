@@ -3,6 +3,8 @@ use Rattle.std.proofs.Common.{◌≡◌, ℕ, suc, ◌+◌, List, [], ◌∷◌,
 use Rattle.std.specs.Option.{option_map_or}
 use Rattle.std.proofs.lemmas.List.{append_assoc, append-nil}
 use Rattle.ss_elem.specs.declared.element.Event.{Event}
+use Rattle.ss_image.specs.declared.row_form.RowForm.{RowForm}
+use Rattle.ss_image.specs.Images.{row_len}
 use Rattle.ss_join.specs.ImageTests.{row_read, rows_read, with_first}
 
 -- rows in front of others, where those are read
@@ -14,23 +16,23 @@ with_front-first : (rows : List Event) (row : Event) (read : Result (List Event)
 with_front-first rows row (Ok more) = ap (λ (all : List Event). let r : Result (List Event) ℕ = Ok all in r) (sym (append_assoc rows (row ∷ []) more))
 with_front-first rows row (Err at) = refl
 
-pub rows_read-some : (bound n at : ℕ) (rows : List Event) (row : Event) (bytes : List ℕ) → Some row ≡ row_read bound bytes
-    → with_front rows (rows_read bound (suc n) at bytes) ≡ with_front (rows ++ row ∷ []) (rows_read bound n (at + 48) (drop 48 bytes))
+pub rows_read-some : (form : RowForm) (bound n at : ℕ) (rows : List Event) (row : Event) (bytes : List ℕ) → Some row ≡ row_read form bound bytes
+    → with_front rows (rows_read form bound (suc n) at bytes) ≡ with_front (rows ++ row ∷ []) (rows_read form bound n (at + row_len form) (drop (row_len form) bytes))
 unfolding rows_read
-rows_read-some bound n at rows row bytes h =
-    ap (λ o. with_front rows (option_map_or (λ x. with_first x (rows_read bound n (at + 48) (drop 48 bytes))) o (Err at))) (sym h)
-    ∙ with_front-first rows row (rows_read bound n (at + 48) (drop 48 bytes))
+rows_read-some form bound n at rows row bytes h =
+    ap (λ o. with_front rows (option_map_or (λ x. with_first x (rows_read form bound n (at + row_len form) (drop (row_len form) bytes))) o (Err at))) (sym h)
+    ∙ with_front-first rows row (rows_read form bound n (at + row_len form) (drop (row_len form) bytes))
 
-pub rows_read-none : (bound n at : ℕ) (rows : List Event) (bytes : List ℕ) → None ≡ row_read bound bytes
-    → with_front rows (rows_read bound (suc n) at bytes) ≡ Err at
+pub rows_read-none : (form : RowForm) (bound n at : ℕ) (rows : List Event) (bytes : List ℕ) → None ≡ row_read form bound bytes
+    → with_front rows (rows_read form bound (suc n) at bytes) ≡ Err at
 unfolding rows_read
-rows_read-none bound n at rows bytes h =
-    ap (λ o. with_front rows (option_map_or (λ x. with_first x (rows_read bound n (at + 48) (drop 48 bytes))) o (Err at))) (sym h)
+rows_read-none form bound n at rows bytes h =
+    ap (λ o. with_front rows (option_map_or (λ x. with_first x (rows_read form bound n (at + row_len form) (drop (row_len form) bytes))) o (Err at))) (sym h)
 
-pub rows_read-done : (bound n at : ℕ) (rows : List Event) (bytes : List ℕ) → n ≡ 0 → with_front rows (rows_read bound n at bytes) ≡ Ok rows
+pub rows_read-done : (form : RowForm) (bound n at : ℕ) (rows : List Event) (bytes : List ℕ) → n ≡ 0 → with_front rows (rows_read form bound n at bytes) ≡ Ok rows
 unfolding rows_read
-rows_read-done bound n at rows bytes h =
-    ap (λ m. with_front rows (rows_read bound m at bytes)) h
+rows_read-done form bound n at rows bytes h =
+    ap (λ m. with_front rows (rows_read form bound m at bytes)) h
     ∙ ap (λ (all : List Event). let r : Result (List Event) ℕ = Ok all in r) (append-nil rows)
 
 pub with_front-nil : (read : Result (List Event) ℕ) → with_front [] read ≡ read

@@ -50,7 +50,7 @@ may_stand b row above taken =
     record {
       passes = and_from (nat_lt row.start row.end && nat_lt row.end top) (nat_lt b row.end)
           (and_from (nat_lt row.start row.end) (nat_lt row.end top) span.1 ends.1) above;
-      is_held = taken.is_held;
+      is_kept = taken.is_kept;
     }
 
 both : (b : ℕ) (rs : List Event) → AllByRecursion (λ (row : Event). nat_lt b row.end ≡ true) rs → AllByRecursion IsTaken rs → AllByRecursion (MayStand b) rs

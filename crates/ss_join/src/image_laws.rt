@@ -1,6 +1,8 @@
 ghost use Rattle.ss_join.specs.ImageExamples.{OneRowSpelled, FiftySixBytes, NegativeSpelled, OneRowRead};
 ghost use Rattle.ss_join.specs.ImageExamples.{OneByteFewer, EndedRow};
-ghost use Rattle.ss_join.specs.ImageLaws.{SidesAreReadAgain, StatesAreReadAgain};
+ghost use Rattle.ss_join.specs.ImageExamples.{WideRowsSpelled, WideRowsRead, WideWithoutNeed, NeitherForm, NoRowsRead};
+ghost use Rattle.ss_join.specs.ImageExamples.{WideRowEnded, NarrowAgain};
+ghost use Rattle.ss_join.specs.ImageLaws.{SidesAreReadAgain, NarrowImagesAreRead, StatesAreReadAgain};
 
 use ss_image::numbers_are_read_again;
 
@@ -14,9 +16,21 @@ pub fn image_examples()
     ensures ended { EndedRow }
 {}
 
+/// Images of joins that remember a row of four values, and of those that remember none.
+pub fn wide_image_examples()
+    ensures spelled { WideRowsSpelled }
+    ensures read { WideRowsRead }
+    ensures without_need { WideWithoutNeed }
+    ensures neither { NeitherForm }
+    ensures no_rows { NoRowsRead }
+    ensures ended { WideRowEnded }
+    ensures narrow_again { NarrowAgain }
+{}
+
 /// What a join remembers is read from its image, where its rows may follow in streams.
 pub fn images_are_read_again()
     ensures sides { SidesAreReadAgain }
+    ensures narrow { NarrowImagesAreRead }
     ensures states { StatesAreReadAgain }
 {
     numbers_are_read_again();

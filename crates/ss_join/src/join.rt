@@ -11,7 +11,7 @@ use crate::image_writer::put_image;
 use crate::pairs::{count, give};
 use crate::side::Side;
 use ss_elem::{Element, Event, Out};
-use ss_image::ImageFault;
+use ss_image::{ImageFault, numbers_have_one_spelling};
 use ss_meaning::join_sides_follow;
 use std::alloc::{AllocError, Global};
 use std::marker::Model;
@@ -114,8 +114,11 @@ impl Join {
     /// The join whose image these bytes are, where the inputs have these bounds.
     pub fn of_image(alloc: Global, bounds: [u64; 8], bytes: &[u8]) -> Result<Join, ImageFault>
         ensures ok { IfOk result (λ join. image_read bounds bytes.now ≡ Ok join) }
+        // Bytes that are taken are the image of what is remembered then, so no state has two images.
+        ensures spelling { IfOk result (λ join. bytes.now ≡ join_image join.left join.right) }
         ensures fault { IfErr result (λ fault. Fails fault (image_read bounds bytes.now)) }
     {
+        numbers_have_one_spelling();
         let (left, right) = read_image(alloc, bounds, bytes)?;
         Ok(Join {
             left: Side::of_rows(alloc, &left)?,

@@ -9,6 +9,6 @@ mod join;
 mod pairs;
 mod side;
 
-pub use image_laws::{image_examples, images_are_read_again};
+pub use image_laws::{image_examples, images_are_read_again, wide_image_examples};
 pub use join::Join;
 pub use ss_image::ImageFault;

@@ -12,7 +12,8 @@ fn matches(x: &Event, y: &Event) -> bool
     x.key == y.key && x.start < y.end && y.start < x.end
 }
 
-/// The time that a left and a right row have in common, with the first value of each.
+/// The time that a left and a right row have in common, with the first value of each as its first two, and the third
+/// value of each as its last two.
 fn joined(left: &Event, right: &Event) -> Event
     ensures { result ≡ joined left.now right.now }
 {
@@ -22,6 +23,8 @@ fn joined(left: &Event, right: &Event) -> Event
         key: left.key,
         a: left.a,
         b: right.a,
+        c: left.c,
+        d: right.c,
     }
 }
 

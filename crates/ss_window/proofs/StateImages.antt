@@ -14,7 +14,7 @@ use Rattle.ss_expr.specs.Operators.{aggregate_of, field_of}
 use Rattle.ss_expr.specs.declared.stream_operator.Agg.{Agg}
 use Rattle.ss_expr.specs.declared.stream_operator.Agg.TheVariants.{Sum, Least, Greatest}
 use Rattle.ss_expr.specs.declared.stream_operator.Field.{Field}
-use Rattle.ss_expr.specs.declared.stream_operator.Field.TheVariants.{A, B}
+use Rattle.ss_expr.specs.declared.stream_operator.Field.TheVariants.{A, B, C, D}
 use Rattle.ss_meaning.specs.Bound.{rows}
 use Rattle.ss_meaning.specs.Merge.{from_input}
 use Rattle.ss_meaning.specs.Low.{low}
@@ -75,8 +75,10 @@ aggregate_passes Least v vs h = one_value (fold int_min v vs) (fold_value int_mi
 aggregate_passes Greatest v vs h = one_value (fold int_max v vs) (fold_value int_max max_value v vs h.0 h.1)
 
 field_value : (size : ℕ) (field : Field) (row : Event) → IsKept size row → IsValue (field_of field row)
-field_value size A row h = value_of_fit row.a h.a
-field_value size B row h = value_of_fit row.b h.b
+field_value size A row h = value_of_fit row.a h.is_kept.a
+field_value size B row h = value_of_fit row.b h.is_kept.b
+field_value size C row h = value_of_fit row.c h.is_kept.c
+field_value size D row h = value_of_fit row.d h.is_kept.d
 
 field_values : (size : ℕ) (field : Field) (rs : List Event) → AllByRecursion (IsKept size) rs → AllByRecursion IsValue (map (field_of field) rs)
 field_values size field [] h = tt
@@ -118,7 +120,7 @@ stands s w key (r ∷ rs) some h =
     let kept = firsts (IsKept s.size) (λ x. belongs (window_of s) w x && x.key == key) (r ∷ rs) h in
     record {
       below = omega (arith, late, ends);
-      is_key = subst IsKeyNumber (eqb-true r.key key parts.1) h.0.0.is_key;
+      is_key = subst IsKeyNumber (eqb-true r.key key parts.1) h.0.0.is_kept.is_key;
       value =
           ap (λ n. is_sum_of (summands s.agg n) (aggregate_of s.agg (map (field_of s.field) (r ∷ rs)))) (sym (length-fields s.field (r ∷ rs)))
           ∙ aggregate_passes s.agg (field_of s.field r) (map (field_of s.field) rs) (field_values s.size s.field (r ∷ rs) kept);

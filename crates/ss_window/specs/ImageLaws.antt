@@ -1,7 +1,7 @@
 -- What holds of images.
-use Rattle.std.specs.Prelude.{◌≡◌, ℕ, ◌+◌, ◌^◌, ◌<◌, ◌≤◌, true, List, length, All, Ok, FitsSigned}
-use Rattle.std.specs.Int.{w64}
+use Rattle.std.specs.Prelude.{◌≡◌, ℕ, ◌+◌, ◌^◌, ◌<◌, ◌≤◌, true, List, length, All, Ok}
 use Rattle.ss_elem.specs.Key.{IsKeyNumber}
+use Rattle.ss_elem.specs.Rows.{IsKeptRow}
 use Rattle.ss_elem.specs.declared.element.Event.{Event}
 use Rattle.ss_expr.specs.Operators.{HasWholeHops}
 use Rattle.ss_expr.specs.declared.stream_operator.Agg.{Agg}
@@ -29,9 +29,7 @@ EntriesAreReadAgain =
 -- a row of the program's type whose windows all end below 2^63
 pub record IsKept (size : ℕ) (row : Event) : Type 0 where
   pub ends : row.start + size < 2 ^ 63
-  pub is_key : IsKeyNumber row.key
-  pub a : FitsSigned w64 row.a
-  pub b : FitsSigned w64 row.b
+  pub is_kept : IsKeptRow row
 
 -- what a window remembers after any p whose windows end below 2^63 is read from its image
 abbrev pub StatesAreReadAgain : Type 0

@@ -79,6 +79,8 @@ impl Total {
             key: *key,
             a: nearest(self.value),
             b: self.rows as i64,
+            c: 0,
+            d: 0,
         }
     }
 }

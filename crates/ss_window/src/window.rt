@@ -199,6 +199,8 @@ fn value(row: &Event, of: Field) -> i64
     match of {
         Field::A => row.a,
         Field::B => row.b,
+        Field::C => row.c,
+        Field::D => row.d,
     }
 }
 

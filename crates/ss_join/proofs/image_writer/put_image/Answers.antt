@@ -2,7 +2,8 @@ use Rattle.std.proofs.Common.{◌≡◌, ℕ, List, ◌++◌, length, ap, ◌∙
 use Rattle.std.proofs.lemmas.List.{append_assoc}
 use Rattle.std.specs.List.{flat_map}
 use Rattle.ss_image.specs.Numbers.{number_bytes}
-use Rattle.ss_image.specs.Images.{row_bytes, join_image}
+use Rattle.ss_image.specs.declared.row_form.RowForm.{RowForm}
+use Rattle.ss_image.specs.Images.{row_bytes, image_in, join_image}
 use Rattle.ss_join.proofs.image_writer.put_image.Goals as goal
 
 regrouped : (old a b c d : List ℕ) → old ++ a ++ b ++ c ++ d ≡ old ++ (a ++ b ++ c ++ d)
@@ -18,8 +19,9 @@ pub returns-clause-ok : goal.returns-clause-ok
 unfolding join_image
 returns-clause-ok c =
     four c.args.out.now.items c.reserve.new.self.items c.bytes_of_u32.result c.bytes_of_u32-2.result
-    (flat_map row_bytes c.args.left.now) (flat_map row_bytes c.args.right.now)
+    (flat_map (row_bytes c.of_sides-form.result) c.args.left.now) (flat_map (row_bytes c.of_sides-form.result) c.args.right.now)
     (number_bytes 4 (length c.args.left.now)) (number_bytes 4 (length c.args.right.now))
     c.put.new.out.items c.put-2.new.out.items c.put_rows.new.out.items c.put_rows-2.new.out.items
     c.in_ok-reserve.ensures.items c.put.ensures.items c.put-2.ensures.items c.put_rows.ensures.items c.put_rows-2.ensures.items
     c.bytes_of_u32.ensures c.bytes_of_u32-2.ensures
+    ∙ ap (λ (form : RowForm). c.args.out.now.items ++ image_in form c.args.left.now c.args.right.now) c.of_sides-form.ensures

@@ -1,39 +1,28 @@
-use Rattle.std.proofs.Common.{◌≡◌, ℕ, List, ◌++◌, ap, ◌∙◌, ℤ}
+use Rattle.std.proofs.Common.{◌≡◌, ℕ, List, ◌++◌, sym, ap, ◌∙◌, ℤ}
 use Rattle.std.proofs.lemmas.List.{append_assoc}
 use Rattle.std.proofs.lemmas.Int.{to_z-of_z}
 use Rattle.std.specs.Int.{w64, cast_unsigned}
-use Rattle.ss_image.specs.Numbers.{number_bytes, key_bytes}
-use Rattle.ss_image.specs.Images.{row_bytes}
+use Rattle.ss_image.specs.Numbers.{number_bytes}
+use Rattle.ss_image.specs.declared.row_form.RowForm.{RowForm}
+use Rattle.ss_image.specs.Images.{narrow_bytes, wide_bytes, row_bytes}
 use Rattle.ss_join.proofs.image_writer.put_row.Goals as goal
 
-regrouped : (old a b c d e : List ℕ) → old ++ a ++ b ++ c ++ d ++ e ≡ old ++ (a ++ b ++ c ++ d ++ e)
-regrouped old a b c d e = simp append_assoc
+regrouped : (old a b c : List ℕ) → old ++ a ++ b ++ c ≡ old ++ (a ++ b ++ c)
+regrouped old a b c = simp append_assoc
 
-five : (old a b c d e p q r s t : List ℕ) → p ≡ old ++ a → q ≡ p ++ b → r ≡ q ++ c → s ≡ r ++ d → t ≡ s ++ e
-    → t ≡ old ++ (a ++ b ++ c ++ d ++ e)
-five old a b c d e p q r s t h i j k l =
-    l ∙ (ap (λ x. x ++ e) (k ∙ ap (λ x. x ++ d) (j ∙ ap (λ x. x ++ c) (i ∙ ap (λ x. x ++ b) h))) ∙ regrouped old a b c d e)
+three : (old a b c p q r : List ℕ) → p ≡ old ++ a → q ≡ p ++ b → r ≡ q ++ c → r ≡ old ++ (a ++ b ++ c)
+three old a b c p q r h i j = j ∙ (ap (λ x. x ++ c) (i ∙ ap (λ x. x ++ b) h) ∙ regrouped old a b c)
 
-same_parts : (old a b c d e a' b' c' d' e' : List ℕ) → a ≡ a' → b ≡ b' → c ≡ c' → d ≡ d' → e ≡ e'
-    → old ++ (a ++ b ++ c ++ d ++ e) ≡ old ++ (a' ++ b' ++ c' ++ d' ++ e')
-same_parts old a b c d e a' b' c' d' e' ea eb ec ed ee =
-    ap (λ x. old ++ (x ++ b ++ c ++ d ++ e)) ea ∙ (ap (λ x. old ++ (a' ++ x ++ c ++ d ++ e)) eb
-    ∙ (ap (λ x. old ++ (a' ++ b' ++ x ++ d ++ e)) ec ∙ (ap (λ x. old ++ (a' ++ b' ++ c' ++ x ++ e)) ed
-    ∙ ap (λ x. old ++ (a' ++ b' ++ c' ++ d' ++ x)) ee)))
-
-pub returns-clause-items : goal.returns-clause-items
-unfolding row_bytes
-returns-clause-items c =
-    let old = c.args.out.now.items in
+pub returns-in-Wide-clause-items : goal.returns-in-Wide-clause-items
+unfolding wide_bytes
+returns-in-Wide-clause-items c =
     let row = c.args.row.now in
-    let a = to_z-of_z w64 c.first_value.result (record { sfits = c.first_value.type_inv }) ∙ c.first_value.ensures in
-    let b = to_z-of_z w64 c.second_value.result (record { sfits = c.second_value.type_inv }) ∙ c.second_value.ensures in
-    five old c.bytes_of_u64.result c.bytes_of_u64-2.result c.bytes_of_key.result c.bytes_of_i64.result c.bytes_of_i64-2.result
-    c.put.new.out.items c.put-2.new.out.items c.put-3.new.out.items c.put-4.new.out.items c.put-5.new.out.items
-    c.put.ensures.items c.put-2.ensures.items c.put-3.ensures.items c.put-4.ensures.items c.put-5.ensures.items
-    ∙ same_parts old c.bytes_of_u64.result c.bytes_of_u64-2.result c.bytes_of_key.result c.bytes_of_i64.result c.bytes_of_i64-2.result
-    (number_bytes 8 row.start) (number_bytes 8 row.end) (key_bytes row.key)
-    (number_bytes 8 (cast_unsigned w64 row.a)) (number_bytes 8 (cast_unsigned w64 row.b))
-    c.bytes_of_u64.ensures c.bytes_of_u64-2.ensures c.bytes_of_key.ensures
-    (c.bytes_of_i64.ensures ∙ ap (λ (v : ℤ). number_bytes 8 (cast_unsigned w64 v)) a)
-    (c.bytes_of_i64-2.ensures ∙ ap (λ (v : ℤ). number_bytes 8 (cast_unsigned w64 v)) b)
+    let bytes : ℤ → List ℕ = λ v. number_bytes 8 (cast_unsigned w64 v) in
+    let third = to_z-of_z w64 c.third_value.result (record { sfits = c.third_value.type_inv }) ∙ c.third_value.ensures in
+    let fourth = to_z-of_z w64 c.fourth_value.result (record { sfits = c.fourth_value.type_inv }) ∙ c.fourth_value.ensures in
+    three c.args.out.now.items (narrow_bytes row) (bytes row.c) (bytes row.d)
+    c.put_narrow.new.out.items c.put_value.new.out.items c.put_value-in-Wide.new.out.items
+    c.put_narrow.ensures.items
+    (c.put_value.ensures.items ∙ ap (λ (v : ℤ). c.put_narrow.new.out.items ++ bytes v) third)
+    (c.put_value-in-Wide.ensures.items ∙ ap (λ (v : ℤ). c.put_value.new.out.items ++ bytes v) fourth)
+    ∙ ap (λ (form : RowForm). c.args.out.now.items ++ row_bytes form row) (sym c.in-Wide.is)
