@@ -37,7 +37,7 @@ kept_row : (size input : ℕ) (x : Element) → size ≤ 2 ^ 46 → MayArriveAt 
     → AllByRecursion (IsKept size) (row_of x)
 kept_row size input (Row row) h k =
     let early : row.start < 2 ^ 62 + 2 ^ 52 = k.early.0 in
-    (record { ends = omega arith; is_key = k.kept.0; a = k.kept.1; b = k.kept.2 }, tt)
+    (record { ends = omega arith; is_kept = k.kept }, tt)
 kept_row size input (Cti time) h k = tt
 kept_row size input End h k = tt
 
@@ -89,7 +89,7 @@ taken_row : (input : ℕ) (x : Element) → MayArriveAt (record { input = input;
     → AllByRecursion IsTaken (row_of x)
 unfolding Follows
 taken_row input (Row row) k (b, (c, e)) =
-    (record { follows = (b, same_bound (nat_lt b top && nat_lt row.end top && nat_lt row.start row.end && nat_le b row.start) b c e); is_held = record { is_key = k.kept.0; a = k.kept.1; b = k.kept.2 } }, tt)
+    (record { follows = (b, same_bound (nat_lt b top && nat_lt row.end top && nat_lt row.start row.end && nat_le b row.start) b c e); is_kept = k.kept }, tt)
 taken_row input (Cti time) k f = tt
 taken_row input End k f = tt
 
@@ -129,7 +129,7 @@ join_again law p kept follow count =
     ap as_join (law sides p (bounds 2 p) refl (record { left = refl; right = refl }) (taken_side 0 p kept follow) (taken_side 1 p kept follow) count)
 
 pub images_again : ArrivalsMayFollow → window.StatesAreReadAgain → join.StatesAreReadAgain → ImagesAreReadAgain
-images_again follows windows joins (spec.Select test a b) lists p rest computable takes whole split kept few count = refl
+images_again follows windows joins (spec.Select test a b c d) lists p rest computable takes whole split kept few count = refl
 images_again follows windows joins spec.Union lists p rest computable takes whole split kept few count = refl
 images_again follows windows joins (spec.Window size hop agg of) lists p rest computable takes whole split kept few count =
     let s = spec.Window size hop agg of in

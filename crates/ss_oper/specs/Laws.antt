@@ -1,10 +1,8 @@
 -- What holds of the images of operators.
-use Rattle.std.specs.Prelude.{◌≡◌, ℕ, ◌+◌, ◌^◌, ◌<◌, ◌≤◌, List, ◌++◌, length, All, Ok, FitsSigned}
-use Rattle.std.specs.Int.{w64}
-use Rattle.ss_elem.specs.Key.{IsKeyNumber}
+use Rattle.std.specs.Prelude.{◌≡◌, ℕ, ◌+◌, ◌^◌, ◌<◌, ◌≤◌, List, ◌++◌, length, All, Ok}
+use Rattle.ss_elem.specs.Rows.{IsKept}
 use Rattle.ss_elem.specs.Validity.{Whole}
 use Rattle.ss_elem.specs.declared.element.Element.{Element}
-use Rattle.ss_elem.specs.declared.element.Element.TheVariants.{Row, Cti, End}
 use Rattle.ss_expr.specs.Operators.{operator_of, IsComputable}
 use Rattle.ss_expr.specs.declared.stream_operator.Spec.{Spec}
 use Rattle.ss_image.specs.Images.{image_of}
@@ -14,15 +12,9 @@ use Rattle.ss_meaning.specs.Inputs.{bounds}
 use Rattle.ss_meaning.specs.Merge.{Arrival, merge}
 use Rattle.ss_oper.specs.Standing.{remembered}
 
--- what the program's type of elements keeps: the key is one, and the values have 64 bits
-abbrev pub IsOfProgram : Element → Type 0
-IsOfProgram (Row row) = IsKeyNumber row.key × FitsSigned w64 row.a × FitsSigned w64 row.b
-IsOfProgram (Cti time) = Unit {0}
-IsOfProgram End = Unit {0}
-
--- such an element, with room for the ends of its windows below 2^63
+-- an element of the program's type, with room for the ends of its windows below 2^63
 pub record MayArriveAt (x : Arrival) : Type 0 where
-  pub kept : IsOfProgram x.element
+  pub kept : IsKept x.element
   pub early : IsBefore (2 ^ 62 + 2 ^ 52) x.element
 
 -- what an operator remembers after the first elements of a merge is read again from its image

@@ -86,7 +86,7 @@ nothing_in (b ∷ bytes) = Err 0
 
 -- what the bytes say is remembered, where the inputs have these bounds, or the place of the first fault
 abbrev pub remembered : Spec → List ℕ → List ℕ → Result Entries ℕ
-remembered (Select test a b) bounds bytes = nothing_in bytes
+remembered (Select test a b c d) bounds bytes = nothing_in bytes
 remembered Union bounds bytes = nothing_in bytes
 remembered (Window size hop agg of) bounds bytes = as_window (window.image_read hop agg (least_bound bounds) bytes)
 remembered Join bounds bytes = as_join (join.image_read bounds bytes)

@@ -1,6 +1,7 @@
-ghost use Rattle.std.specs.Prelude.{◌≡◌, ◌<◌, ◌≤◌, ◌^◌, true, IfOk, IfErr, Ok, OnOk, OnErr, Err};
+ghost use Rattle.std.specs.Prelude.{◌≡◌, ◌<◌, ◌≤◌, ◌^◌, [], true, IfOk, IfErr, Ok, OnOk, OnErr, Err};
 ghost use Rattle.ss_expr.specs.Operators.{IsComputable};
 ghost use Rattle.ss_image.specs.Faults.{Fails};
+ghost use Rattle.ss_image.specs.Images.{image_of};
 ghost use Rattle.ss_image.specs.declared.image_fault.ImageFault.TheVariants.{At};
 ghost use Rattle.ss_meaning.specs.Jobs.{IsBefore};
 ghost use Rattle.ss_oper.specs.Kept.{CountsRows, GivesRows, IsKept, RemembersNothing, entries_kept, spec_kept};
@@ -57,6 +58,7 @@ pub(crate) fn kept_of_image(
     ensures kept { IfOk result IsKept }
     ensures spec { IfOk result (λ kept. spec_kept kept ≡ spec.now) }
     ensures ok { IfOk result (λ kept. remembered spec.now merger.now.bounds bytes.now ≡ Ok (entries_kept kept)) }
+    ensures spelling { IfOk result (λ kept. bytes.now ≡ image_of (entries_kept kept)) }
     ensures fault { IfErr result (λ e. Fails e (remembered spec.now merger.now.bounds bytes.now)) }
 {
     match spec {
@@ -80,6 +82,7 @@ pub(crate) fn kept_of_image(
 /// Refuses each byte, at 0.
 fn refuse_any(bytes: &[u8]) -> Result<(), ImageFault>
     ensures ok { OnOk result (nothing_in bytes.now ≡ Ok NoEntries) }
+    ensures none { OnOk result (bytes.now ≡ []) }
     ensures fault { IfErr result (λ e. (e ≡ At 0) × (nothing_in bytes.now ≡ Err 0)) }
 {
     if bytes.is_empty() {

@@ -146,6 +146,8 @@ impl Oper {
         ensures spec { IfOk result (λ oper. oper.spec ≡ spec.now) }
         ensures low { IfOk result (λ oper. oper.low ≡ least_bound merger.now.bounds) }
         ensures ok { IfOk result (λ oper. remembered spec.now merger.now.bounds bytes.now ≡ Ok oper.entries) }
+        // Bytes that are taken are the image of what is remembered then, so no state has two images.
+        ensures spelling { IfOk result (λ oper. bytes.now ≡ image_of oper.entries) }
         ensures fault { IfErr result (λ e. Fails e (remembered spec.now merger.now.bounds bytes.now)) }
     {
         let kept = kept_of_image(alloc, spec, merger, bytes)?;

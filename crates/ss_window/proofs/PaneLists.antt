@@ -1,6 +1,7 @@
 -- What panes tell of their entries.
 use Rattle.std.proofs.Common.{◌≡◌, ℕ, suc, ◌+◌, ◌<◌, ◌≤◌, Bool, true, false, cond, nat_lt, List, [], ◌∷◌, ◌++◌, length, map, Option, Some, None, refl, sym, ap, subst, ◌∙◌, arith, ltb-true, lt-ltb, eq-eqb, ◌^◌}
-use Rattle.std.specs.Prelude.{All, nat_le, slice_get}
+use Rattle.std.specs.Prelude.{All, nat_eq, nat_le, slice_get, ◌||◌}
+use Rattle.std.specs.Set.{is_member, distinct_count, unique_keys}
 use Rattle.std.specs.List.{AllByRecursion, list_all}
 use Rattle.std.specs.List.Sorted.{IsStrictlySortedBy}
 use Rattle.std.specs.declared.cmp.Ordering.{Ordering}
@@ -17,7 +18,7 @@ use Rattle.ss_meaning.specs.Entries.{WindowEntry}
 use Rattle.ss_meaning.specs.EntryLists.{AreInOrder, is_of}
 use Rattle.ss_window.specs.Held.{EntryTotal, HasTotal, entry_of, entries_at, entries_in}
 use Rattle.ss_window.specs.Puts.{found}
-use Rattle.ss_window.specs.States.{CountsFew, begins_reached, begun, ends_begun, pane_count, reached}
+use Rattle.ss_window.specs.States.{CountsFew, begins_reached, pane_count, reached}
 use Rattle.ss_window.proofs.Places.{none_some, of_false, of_later, some_none}
 use Rattle.ss_window.proofs.EndChanges.{ThePanes, AreLater, panes_later}
 use Rattle.ss_window.proofs.PaneTotals.{same_test}
@@ -184,37 +185,41 @@ first_end low (r ∷ ps) p f h =
 
 -- how many panes there are
 
-begun_same : (end : ℕ) → begun (Some end) end ≡ 0
-begun_same end = ap (λ b. cond b 0 1) (eq-eqb end end refl)
+abbrev ends_listed : List WindowEntry → List ℕ
+ends_listed es = map (λ (e : WindowEntry). e.end) es
 
-ends_in_pane : (end : ℕ) (ts : List (ℕ × EntryTotal)) (rest : List WindowEntry)
-    → ends_begun (Some end) (map (λ (e : WindowEntry). e.end) (entries_at end ts ++ rest)) ≡ ends_begun (Some end) (map (λ (e : WindowEntry). e.end) rest)
-ends_in_pane end [] rest = refl
-ends_in_pane end (t ∷ ts) rest = let same = begun_same end in let more = ends_in_pane end ts rest in omega (arith, same, more)
-
--- an end begins at each pane that is not of the end before
-abbrev IsEarlier : Option ℕ → List ℕ → Type 0
-IsEarlier None keys = Unit {0}
-IsEarlier (Some before) keys = AllByRecursion (λ k. nat_cmp before k ≡ Less) keys
-
-panes_begun : (before : Option ℕ) (ps : ThePanes) → IsStrictlySortedBy nat_cmp (keys_of ps) → AllByRecursion HasTotal ps → IsEarlier before (keys_of ps)
-    → ends_begun before (map (λ (e : WindowEntry). e.end) (entries_in ps)) ≡ length ps
-unfolding IsStrictlySortedBy
-panes_begun before [] s f h = refl
-panes_begun before (r ∷ ps) s f h = begins r.1.entries f.0 (first before h) (panes_begun (Some r.0) ps s.1 f.1 s.0)
+-- no entry of later panes has an end that comes before them
+is_no_end : (end : ℕ) (ps : ThePanes) → AllByRecursion (λ k. nat_cmp end k ≡ Less) (keys_of ps) → is_member nat_eq (ends_listed (entries_in ps)) end ≡ false
+is_no_end end [] h = refl
+is_no_end end (r ∷ ps) h = in_pane (is_no_end end ps h.1) r.1.entries
   where
-    first : (o : Option ℕ) → IsEarlier o (r.0 ∷ keys_of ps) → begun o r.0 ≡ 1
-    first None g = refl
-    first (Some n) g = let less = ranked n r.0 Less (sym g.0) in ap (λ b. cond b 0 1) (ne_eqb n r.0 (λ e. omega (arith, less, e)))
+    other : nat_eq end r.0 ≡ false
+    other = let less = ranked end r.0 Less (sym h.0) in ne_eqb end r.0 (λ e. omega (arith, less, e))
 
-    begins : (ts : List (ℕ × EntryTotal)) → 0 < length ts → begun before r.0 ≡ 1
-        → ends_begun (Some r.0) (map (λ (e : WindowEntry). e.end) (entries_in ps)) ≡ length ps
-        → ends_begun before (map (λ (e : WindowEntry). e.end) (entries_at r.0 ts ++ entries_in ps)) ≡ suc (length ps)
-    begins [] k one rest = absurd (omega (arith, k))
-    begins (t ∷ ts) k one rest = let same = ends_in_pane r.0 ts (entries_in ps) in omega (arith, one, same, rest)
+    in_pane : is_member nat_eq (ends_listed (entries_in ps)) end ≡ false → (ts : List (ℕ × EntryTotal))
+        → is_member nat_eq (ends_listed (entries_at r.0 ts ++ entries_in ps)) end ≡ false
+    in_pane later [] = later
+    in_pane later (t ∷ ts) = ap (λ b. b || is_member nat_eq (ends_listed (entries_at r.0 ts ++ entries_in ps)) end) other ∙ in_pane later ts
+
+-- the totals of a pane have one end
+one_end : (end : ℕ) (t : ℕ × EntryTotal) (ts : List (ℕ × EntryTotal)) (rest : List WindowEntry) → is_member nat_eq (ends_listed rest) end ≡ false
+    → distinct_count nat_eq (ends_listed (entries_at end (t ∷ ts) ++ rest)) ≡ suc (distinct_count nat_eq (ends_listed rest))
+one_end end t [] rest h =
+    ap (λ b. length (cond b (unique_keys nat_eq (ends_listed rest)) (end ∷ unique_keys nat_eq (ends_listed rest)))) h
+one_end end t (u ∷ ts) rest h =
+    let more = ends_listed (entries_at end (u ∷ ts) ++ rest) in
+    let again : is_member nat_eq more end ≡ true =
+    ap (λ b. b || is_member nat_eq (ends_listed (entries_at end ts ++ rest)) end) (eq-eqb end end refl) in
+    ap (λ b. length (cond b (unique_keys nat_eq more) (end ∷ unique_keys nat_eq more))) again ∙ one_end end u ts rest h
 
 pub panes_counted : (ps : ThePanes) → IsStrictlySortedBy nat_cmp (keys_of ps) → AllByRecursion HasTotal ps → length ps ≡ pane_count (entries_in ps)
-panes_counted ps s f = sym (panes_begun None ps s f tt)
+unfolding IsStrictlySortedBy
+panes_counted [] s f = refl
+panes_counted (r ∷ ps) s f = begins (panes_counted ps s.1 f.1) r.1.entries f.0
+  where
+    begins : length ps ≡ pane_count (entries_in ps) → (ts : List (ℕ × EntryTotal)) → 0 < length ts → suc (length ps) ≡ distinct_count nat_eq (ends_listed (entries_at r.0 ts ++ entries_in ps))
+    begins rest [] k = absurd (omega (arith, k))
+    begins rest (t ∷ ts) k = ap suc rest ∙ sym (one_end r.0 t ts (entries_in ps) (is_no_end r.0 ps s.0))
 
 -- whether each counts few
 

@@ -1,6 +1,7 @@
 -- What a window is at a moment.
 use Rattle.std.specs.Prelude.{◌≡◌, ℕ, ◌^◌, ◌<◌, ◌≤◌, nat_lt, nat_le, Bool, false, List, [], ◌∷◌, ◌++◌}
-use Rattle.std.specs.Prelude.{◌+◌, ◌==◌, if◌then◌else◌, Option, Some, None, length, map, filter, All}
+use Rattle.std.specs.Prelude.{length, map, filter, nat_eq, All}
+use Rattle.std.specs.Set.{distinct_count}
 use Rattle.ss_elem.specs.declared.element.Event.{Event}
 use Rattle.ss_elem.specs.declared.element.Element.{Element}
 use Rattle.ss_elem.specs.declared.element.Element.TheVariants.{Row}
@@ -71,18 +72,9 @@ reached bound es = filter (λ e. nat_le e.end bound) es
 abbrev pub left : ℕ → List WindowEntry → List WindowEntry
 left bound es = filter (λ e. nat_lt bound e.end) es
 
--- how many ends begin in a list: an end begins where another one stands before it, or none
-abbrev pub begun : Option ℕ → ℕ → ℕ
-begun None end = 1
-begun (Some before) end = if before == end then 0 else 1
-
-abbrev pub ends_begun : Option ℕ → List ℕ → ℕ
-ends_begun before [] = 0
-ends_begun before (end ∷ ends) = begun before end + ends_begun (Some end) ends
-
--- how many different ends entries in order have
+-- how many different ends entries have
 abbrev pub pane_count : List WindowEntry → ℕ
-pane_count es = ends_begun None (map (λ e. e.end) es)
+pane_count es = distinct_count nat_eq (map (λ e. e.end) es)
 
 -- the first entry's end is reached by a bound
 abbrev pub begins_reached : ℕ → List WindowEntry → Bool
