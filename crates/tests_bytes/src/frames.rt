@@ -79,9 +79,9 @@ fn every_part_of_a_frame_from_the_front_is_short(rt: HostRuntime) -> Result<(), 
 fn no_byte_of_a_frame_may_change(rt: HostRuntime) -> Result<(), Fail> {
     let code = code_of(rt.alloc(), &frame(rt.alloc())?)?;
     assert!(rt; code.len() == 97);
-    for place in 1..97 {
-        let bytes = changed(rt.alloc(), &code, place, 0x40)?;
-        assert!(rt; get_frame(rt.alloc(), &bytes[1..], 2, 5).is_err(), "{place}");
+    for place in 0..96 {
+        let bytes = changed(rt.alloc(), &code[1..], place, 0x40)?;
+        assert!(rt; get_frame(rt.alloc(), &bytes, 2, 5).is_err(), "{place}");
     }
     Ok(())
 }

@@ -46,7 +46,10 @@ fn every_part_of_a_record_from_the_front_is_short(rt: HostRuntime) -> Result<(),
         for len in 0..record.len() {
             let (have, want) = (len as u64, if len < 2 { 2 } else { whole });
             let fault = Err(CodecFault::Short { have, want });
-            assert!(rt; get_element(&record[..len], 2, n as u64) == fault, "{n} {len}");
+            assert!(rt;
+                get_element(&record[..len], 2, n as u64) == fault,
+                "{n} {len}"
+            );
         }
     }
     Ok(())

@@ -2,8 +2,8 @@ ghost use Rattle.std.specs.Prelude.{◌^◌, IsTrue};
 ghost use Rattle.ss_meaning.specs.Jobs.{IsBefore};
 
 use ss_elem::{Bound, Element, Out, valid_next};
-use ss_expr::{Agg, Field};
 use ss_events::{Late, read_events};
+use ss_expr::{Agg, Field};
 use ss_window::{ImageFault, Window};
 use std::alloc::Global;
 use std::test::Fail;

@@ -20,7 +20,10 @@ pub(crate) fn word(words: &[String], place: usize) -> Result<&str, Fail> {
 
 /// The number of a vertex, and one more.
 fn vertex_and_number(words: &[String]) -> Result<(u32, u64), Fail> {
-    Ok((word(words, 0)?.parse::<u32>()?, number(Some(word(words, 1)?))?))
+    Ok((
+        word(words, 0)?.parse::<u32>()?,
+        number(Some(word(words, 1)?))?,
+    ))
 }
 
 /// The record of the vertex, the number and the element that the words say.

@@ -27,9 +27,9 @@ pub(crate) struct Walk {
 /// The walk of an operator over its inputs, whether it goes on from its image behind no element or behind any one of
 /// them. Fails where these differ.
 pub(crate) fn walked<M: Machine>(alloc: Global, fresh: &M, inputs: &Inputs) -> Result<Walk, Fail> {
-    let whole = walk(alloc, fresh, inputs, inputs.all.len())?;
+    let whole = walk_with_cut(alloc, fresh, inputs, inputs.all.len())?;
     for cut in 0..inputs.all.len() {
-        let other = walk(alloc, fresh, inputs, cut)?;
+        let other = walk_with_cut(alloc, fresh, inputs, cut)?;
         if other.given.as_slice() != whole.given.as_slice() || other.held != whole.held {
             return Err(Fail::new(format_args!("behind {cut} elements it goes on another way")));
         }
@@ -38,7 +38,7 @@ pub(crate) fn walked<M: Machine>(alloc: Global, fresh: &M, inputs: &Inputs) -> R
 }
 
 /// The walk of an operator that is put into its image behind so many elements, and goes on from it.
-fn walk<M: Machine>(
+fn walk_with_cut<M: Machine>(
     alloc: Global,
     fresh: &M,
     inputs: &Inputs,
@@ -58,6 +58,9 @@ fn walk<M: Machine>(
             held.push(' ')?;
         }
         held.push_str(&machine.held(alloc)?)?;
+    }
+    if machine.again(alloc, &merger)?.held(alloc)? != machine.held(alloc)? {
+        return Err(Fail::new("its image behind all elements holds something else"));
     }
     Ok(Walk { given, held })
 }

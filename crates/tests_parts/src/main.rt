@@ -55,7 +55,13 @@ fn main(rt: HostRuntime) -> Result<(), Fail> {
     }
     let told = run(&rt, WRONG)?;
     println!(rt; "{WRONG}: {} told as wrong", told.wrong)?;
-    if wrong == 0 && told == (Counts { passed: 0, wrong: 3 }) {
+    if wrong == 0
+        && told
+            == (Counts {
+                passed: 0,
+                wrong: 3,
+            })
+    {
         Ok(())
     } else {
         Err(Fail::new("not all cases are as they should be"))

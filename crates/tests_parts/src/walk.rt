@@ -62,13 +62,18 @@ fn differing(alloc: Global, line: u64, wanted: &[u8], came: &[u8]) -> Result<Dif
     for one in str::from_utf8(wanted)?.lines() {
         let other = others.next().unwrap_or("nothing more");
         if one != other {
-            return difference(alloc, line, one, other);
+            return make_difference(alloc, line, one, other);
         }
     }
-    difference(alloc, line, "nothing more", others.next().unwrap_or("another end"))
+    make_difference(
+        alloc,
+        line,
+        "nothing more",
+        others.next().unwrap_or("another end"),
+    )
 }
 
-fn difference(alloc: Global, line: u64, wanted: &str, came: &str) -> Result<Difference, Fail> {
+fn make_difference(alloc: Global, line: u64, wanted: &str, came: &str) -> Result<Difference, Fail> {
     Ok(Difference {
         line,
         wanted: String::from_str(alloc, wanted)?,

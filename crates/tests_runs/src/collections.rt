@@ -1,123 +1,87 @@
 //! Runs that collect, trim and pass, and those in which the depot fails at one of their calls: the halves made before
-//! stay, and the vault is halted.
+//! stay, and the vault is halted. What is told is of the source and of the select base, dur, mark and taken; then the
+//! select's snapshots; how many elements were stored since the last whole pass, and how many entries there are.
+use fixtures::{SELECT, Trouble, call_all, started};
 use ss_outside::{Depot, DepotCall};
-use fixtures::{Answer, Call, SELECT, Store, Trouble, answer_to, before_a_pass, call_all, run_with_passes, started};
-use ss_vault::VaultFault;
 use std::alloc::Global;
 use std::process::Abort;
 use std::test::Fail;
 
-/// What a vault of the job with the select tells: of the source and the select base, dur, mark and taken, the select's
-/// snapshots, how many elements were stored since the last whole pass, and how many entries the journal has.
-#[derive(Clone, Copy, Debug)]
-struct Told<'a> {
-    source: [u64; 4],
-    select: [u64; 4],
-    snaps: &'a [u64],
-    since: u64,
-    entries: u64,
-}
+/// A run that collects, trims and passes.
+const RUN: &str = "
+flush 0 0 1: Flushed { count: 1, dur: 1 }
+flush 1 0 2: Flushed { count: 2, dur: 2 }
+collect 0: 0
+keep 2: Kept
+collect 0: 2
+read 0 1: Gone { base: 2 }
+read 0 2: NotYet { dur: 2 }
+flush 0 2 2: Flushed { count: 2, dur: 4 }
+read 0 2: event,3,4,k,3,0
+trim 1: 2
+trim 0: 4
+collect 1: 0
+take 2: Took { n: 0 }
+take 2: Took { n: 1 }
+collect 1: 2
+flush 1 2 1: Flushed { count: 1, dur: 3 }
+keep 3: Kept
+keep 1: Old { low: 3 }
+pass: ()
+read 0 2: Gone { base: 3 }
+read 0 3: end
+fetch 3: n 3 out 3 image 0
+take 2: Took { n: 2 }
+flush 1 3 1: Flushed { count: 1, dur: 4 }
+take 2: Took { n: 3 }
+pass: ()
+row 0: [3, 4, 4, 0]
+row 1: [4, 4, 0, 0]
+snaps: 3/3 low 3
+counts: (0, 19)
+";
 
-/// Calls behind `before_a_pass`, of which the last meets this trouble, and what they leave.
-#[derive(Clone, Copy, Debug)]
-struct Case<'a> {
-    trouble: Trouble,
-    calls: &'a [Call],
-    told: Told<'a>,
-}
+/// As far as a pass has something to drop.
+const BEFORE: &str = "
+flush 0 0 4: Flushed { count: 4, dur: 4 }
+keep 2: Kept
+keep 3: Kept
+flush 1 0 3: Flushed { count: 3, dur: 3 }
+take 2: Took { n: 0 }
+take 2: Took { n: 1 }
+row 0: [0, 4, 0, 0]
+row 1: [0, 3, 0, 0]
+snaps: 0/0 2/2 3/3 low 3
+counts: (7, 6)
+";
 
-const fn case_of<'a>(trouble: Trouble, calls: &'a [Call], told: Told<'a>) -> Case<'a> {
-    Case {
-        trouble,
-        calls,
-        told,
-    }
-}
+/// Two passes behind it, of which the second finds nothing to drop.
+const PASSES: &str = "
+pass: ()
+row 0: [3, 4, 4, 0]
+row 1: [2, 3, 0, 0]
+snaps: 3/3 low 3
+counts: (0, 7)
+pass: ()
+row 0: [3, 4, 4, 0]
+row 1: [2, 3, 0, 0]
+snaps: 3/3 low 3
+counts: (0, 8)
+";
 
-/// What is told before these calls.
-const BEFORE: Told<'static> = Told {
-    source: [0, 4, 0, 0],
-    select: [0, 3, 0, 0],
-    snaps: &[0, 2, 3],
-    since: 7,
-    entries: 6,
-};
-
-const fn fails(which: DepotCall, number: u64) -> Trouble {
-    Trouble::Call(which, number)
-}
-
-/// Compares what the vault tells.
-fn tells(rt: &impl Abort, store: &Store, told: Told<'_>) -> Result<(), Fail> {
-    let (source, select) = (told.source, told.select);
-    assert!(rt; store.row(0)? == source, "{told:?}");
-    assert!(rt; store.row(1)? == select, "{told:?}");
-    assert!(rt; store.counts() == (told.since, told.entries), "{told:?}");
-    let (snaps, _) = store.snaps(1)?;
-    assert!(rt; snaps.len() == told.snaps.len(), "{told:?}");
-    for (snap, n) in snaps.iter().zip(told.snaps) {
-        assert!(rt; snap.n == *n, "{told:?}");
-    }
-    Ok(())
-}
-
-/// Each of these calls finds the vault halted.
-fn all_halted(rt: &impl Abort, store: &mut Store) -> Result<(), Fail> {
-    let calls = [
-        Call::Pass,
-        Call::Collect { v: 0 },
-        Call::Trim { v: 1 },
-        Call::Take { k: 2 },
-    ];
-    for call in calls {
-        let found = answer_to(store, call)?;
-        assert!(rt; found == Err(VaultFault::Halted), "{call:?}: {found:?}");
-    }
-    Ok(())
-}
-
-/// Makes the calls of a case; the last of them meets its trouble.
-fn meets(rt: &impl Abort, store: &mut Store, case: Case<'_>) -> Result<(), Fail> {
-    for (number, call) in case.calls.iter().enumerate() {
-        let found = answer_to(store, *call)?;
-        if number.saturating_add(1) == case.calls.len() {
-            let fault = VaultFault::Store { count: 1 };
-            assert!(rt; found == Err(fault), "{case:?}: {found:?}");
-        } else {
-            assert!(rt; found.is_ok(), "{case:?}: {found:?}");
-        }
-    }
-    Ok(())
-}
-
-/// The job with the select up to a pass, then the calls of a case.
-fn stops(rt: &impl Abort, alloc: Global, case: Case<'_>) -> Result<(), Fail> {
-    let mut store = started(alloc, SELECT, case.trouble)?;
-    call_all(&mut store, &before_a_pass())?;
-    tells(rt, &store, BEFORE)?;
-    meets(rt, &mut store, case)?;
-    tells(rt, &store, case.told)?;
-    all_halted(rt, &mut store)?;
-    tells(rt, &store, case.told)?;
-    let halted = store.halted();
-    assert_eq!(rt; halted, Some(VaultFault::Store { count: 1 }));
-    let (depot, _) = store.into_parts();
-    assert_eq!(rt; depot.faults(), 1);
-    Ok(())
-}
+/// The rest finds the vault halted.
+const HALTED: &str = "
+pass: Halted
+collect 0: Halted
+trim 1: Halted
+take 2: Halted
+halted: Some(Store { count: 1 })
+";
 
 #[test]
 fn a_run_collects_trims_and_passes(rt: HostRuntime) -> Result<(), Fail> {
     let mut store = started(rt.alloc(), SELECT, Trouble::None)?;
-    call_all(&mut store, &run_with_passes()?)?;
-    let told = Told {
-        source: [3, 4, 4, 0],
-        select: [4, 4, 0, 0],
-        snaps: &[3],
-        since: 0,
-        entries: 19,
-    };
-    tells(&rt, &store, told)?;
+    call_all(rt.alloc(), &mut store, RUN)?;
     assert!(rt; store.all_ended());
     let (_, outputs) = store.into_parts();
     assert!(rt; outputs.bytes(SELECT.output) == SELECT.lines.as_bytes());
@@ -127,65 +91,54 @@ fn a_run_collects_trims_and_passes(rt: HostRuntime) -> Result<(), Fail> {
 #[test]
 fn a_pass_drops_what_is_not_required(rt: HostRuntime) -> Result<(), Fail> {
     let mut store = started(rt.alloc(), SELECT, Trouble::None)?;
-    call_all(&mut store, &before_a_pass())?;
-    call_all(&mut store, &[(Call::Pass, Answer::Pass)])?;
-    let told = Told {
-        source: [3, 4, 4, 0],
-        select: [2, 3, 0, 0],
-        snaps: &[3],
-        since: 0,
-        entries: 7,
-    };
-    tells(&rt, &store, told)?;
-    // A second one finds nothing to drop.
-    call_all(&mut store, &[(Call::Pass, Answer::Pass)])?;
-    tells(&rt, &store, Told { entries: 8, ..told })
+    call_all(rt.alloc(), &mut store, BEFORE)?;
+    call_all(rt.alloc(), &mut store, PASSES)
 }
+
+/// The call of that kind and number fails, which is the last of these. What is told then stays.
+fn stops(
+    rt: &impl Abort,
+    alloc: Global,
+    trouble: (DepotCall, u64),
+    calls: &str,
+    told: &str,
+) -> Result<(), Fail> {
+    let mut store = started(alloc, SELECT, Trouble::Call(trouble.0, trouble.1))?;
+    call_all(alloc, &mut store, BEFORE)?;
+    call_all(alloc, &mut store, calls)?;
+    call_all(alloc, &mut store, told)?;
+    call_all(alloc, &mut store, HALTED)?;
+    call_all(alloc, &mut store, told)?;
+    let (depot, _) = store.into_parts();
+    assert_eq!(rt; depot.faults(), 1);
+    Ok(())
+}
+
+const AS_BEFORE: &str =
+    "row 0: [0, 4, 0, 0]\nrow 1: [0, 3, 0, 0]\nsnaps: 0/0 2/2 3/3 low 3\ncounts: (7, 6)";
+
+const COLLECTED: &str =
+    "row 0: [0, 4, 0, 0]\nrow 1: [2, 3, 0, 0]\nsnaps: 0/0 2/2 3/3 low 3\ncounts: (7, 7)";
 
 #[test]
 fn a_pass_stops_at_each_cut_and_drop(rt: HostRuntime) -> Result<(), Fail> {
-    let calls = [Call::Pass];
-    let entered = Told {
-        entries: 7,
-        ..BEFORE
-    };
-    let collected = Told {
-        source: [0, 4, 0, 0],
-        select: [2, 3, 0, 0],
-        ..entered
-    };
-    let trimmed = Told {
-        snaps: &[3],
-        ..collected
-    };
-    let cases = [
-        (fails(DepotCall::Cut, 1), entered),
-        (fails(DepotCall::DropBelow, 1), collected),
-        (fails(DepotCall::Cut, 2), trimmed),
-    ];
-    for (trouble, told) in cases {
-        stops(&rt, rt.alloc(), case_of(trouble, &calls, told))?;
-    }
-    Ok(())
+    let calls = "pass: Store { count: 1 }";
+    let entered = "row 0: [0, 4, 0, 0]\nrow 1: [0, 3, 0, 0]\nsnaps: 0/0 2/2 3/3 low 3\ncounts: (7, 7)";
+    let trimmed = "row 0: [0, 4, 0, 0]\nrow 1: [2, 3, 0, 0]\nsnaps: 3/3 low 3\ncounts: (7, 7)";
+    stops(&rt, rt.alloc(), (DepotCall::Cut, 1), calls, entered)?;
+    stops(&rt, rt.alloc(), (DepotCall::DropBelow, 1), calls, COLLECTED)?;
+    stops(&rt, rt.alloc(), (DepotCall::Cut, 2), calls, trimmed)
 }
 
 #[test]
 fn a_collect_and_a_trim_stop_at_their_calls(rt: HostRuntime) -> Result<(), Fail> {
-    let (first, second) = (Call::Collect { v: 1 }, Call::Collect { v: 0 });
-    let trim = Call::Trim { v: 1 };
-    let collected = Told {
-        source: [0, 4, 0, 0],
-        select: [2, 3, 0, 0],
-        entries: 7,
-        ..BEFORE
-    };
-    let (one, both, trims, behind) = ([first], [first, second], [trim], [first, trim]);
     let alloc = rt.alloc();
-    let cut = fails(DepotCall::Cut, 1);
-    stops(&rt, alloc, case_of(cut, &one, BEFORE))?;
-    let second_cut = fails(DepotCall::Cut, 2);
-    stops(&rt, alloc, case_of(second_cut, &both, collected))?;
-    let drop = fails(DepotCall::DropBelow, 1);
-    stops(&rt, alloc, case_of(drop, &trims, BEFORE))?;
-    stops(&rt, alloc, case_of(drop, &behind, collected))
+    let one = "collect 1: Store { count: 1 }";
+    let both = "collect 1: 2\ncollect 0: Store { count: 1 }";
+    let trim = "trim 1: Store { count: 1 }";
+    let behind = "collect 1: 2\ntrim 1: Store { count: 1 }";
+    stops(&rt, alloc, (DepotCall::Cut, 1), one, AS_BEFORE)?;
+    stops(&rt, alloc, (DepotCall::Cut, 2), both, COLLECTED)?;
+    stops(&rt, alloc, (DepotCall::DropBelow, 1), trim, AS_BEFORE)?;
+    stops(&rt, alloc, (DepotCall::DropBelow, 1), behind, COLLECTED)
 }

@@ -1,5 +1,5 @@
 //! What the depot holds behind a whole run, byte by byte. The digests are those of Python's hashlib.
-use fixtures::{COPY, SELECT, SmallJob, Step, Store, Trouble, WINDOW, answer_to, run_of_copy, run_of_select, run_of_window, started};
+use fixtures::{COPY, SELECT, SmallJob, Store, Trouble, WINDOW, call_all, started};
 use std::alloc::Global;
 use std::test::Fail;
 
@@ -38,35 +38,22 @@ const WAITING: &str = "\
      000000001e6b0000000000000000000000000000000000000000000000000000000000000400000000000000018a9a38a6be\
      505f56ad7e008edaa44e5845f4d703f43a58323bc59d092136eb54";
 
-/// The vault of a job behind these calls.
-fn behind(alloc: Global, job: SmallJob<'_>, steps: &[Step]) -> Result<Store, Fail> {
+/// The vault of a job behind its run.
+fn behind(alloc: Global, job: SmallJob<'_>) -> Result<Store, Fail> {
     let mut store = started(alloc, job, Trouble::None)?;
-    for (call, _) in steps {
-        if answer_to(&mut store, *call)?.is_err() {
-            return Err("a call failed".into());
-        }
-    }
+    call_all(alloc, &mut store, job.run)?;
     Ok(store)
 }
 
 #[test]
-fn records_are_held_under_their_numbers(rt: HostRuntime) -> Result<(), Fail> {
-    for (n, text) in [(0, ROW), (1, CTI), (2, END)] {
-        let bytes = behind(rt.alloc(), COPY, &run_of_copy())?.into_record(0, n)?;
+fn records_and_snapshots_are_held_under_their_numbers(rt: HostRuntime) -> Result<(), Fail> {
+    for (job, v, n, text) in [(COPY, 0, 0, ROW), (COPY, 0, 1, CTI), (COPY, 0, 2, END), (WINDOW, 1, 1, GIVEN)] {
+        let bytes = behind(rt.alloc(), job)?.into_record(v, n)?;
+        assert!(rt; bytes == hex::decode(rt.alloc(), text)?, "{v} {n}");
+    }
+    for (job, n, text) in [(SELECT, 0, FIRST), (SELECT, 2, SECOND), (WINDOW, 3, WAITING)] {
+        let bytes = behind(rt.alloc(), job)?.into_frame(n)?;
         assert!(rt; bytes == hex::decode(rt.alloc(), text)?, "{n}");
     }
-    let bytes = behind(rt.alloc(), WINDOW, &run_of_window())?.into_record(1, 1)?;
-    assert!(rt; bytes == hex::decode(rt.alloc(), GIVEN)?);
-    Ok(())
-}
-
-#[test]
-fn snapshots_are_held_under_their_numbers(rt: HostRuntime) -> Result<(), Fail> {
-    for (n, text) in [(0, FIRST), (2, SECOND)] {
-        let bytes = behind(rt.alloc(), SELECT, &run_of_select()?)?.into_frame(n)?;
-        assert!(rt; bytes == hex::decode(rt.alloc(), text)?, "{n}");
-    }
-    let bytes = behind(rt.alloc(), WINDOW, &run_of_window())?.into_frame(3)?;
-    assert!(rt; bytes == hex::decode(rt.alloc(), WAITING)?);
     Ok(())
 }

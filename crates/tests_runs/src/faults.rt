@@ -1,35 +1,56 @@
 //! Runs in which one call of a device goes wrong: what was done before stays, the vault is halted, and no device is
 //! asked again.
+use fixtures::{
+    COPY, SELECT, SmallJob, Store, Trouble, WINDOW, answer_to, parts_of, started,
+};
 use ss_outside::{Depot, DepotCall, Outputs};
-use fixtures::{COPY, SELECT, SmallJob, Step, Store, Trouble, WINDOW, answer_to, run_of_copy, run_of_select, run_of_window, started};
 use ss_vault::VaultFault;
 use std::alloc::Global;
 use std::process::Abort;
 use std::test::Fail;
 
-/// A call of the depot in a run: in which step it is made, of which record or snapshot of which vertex, and how many
-/// lines were put before.
+/// A call of a device in a run.
 #[derive(Clone, Copy, Debug)]
-struct Place {
+struct Place<'a> {
+    kind: &'a str,
+    /// The step in which it is made.
     step: usize,
+    /// How many of its kind were made before.
+    before: u64,
+    /// How many lines were put before.
+    lines: usize,
+    /// The record or the snapshot that it is of.
     v: u32,
     n: u64,
-    lines: usize,
 }
 
-const fn place_of(step: usize, v: u32, n: u64, lines: usize) -> Place {
-    Place { step, v, n, lines }
+/// The calls of the devices in a run, but for the keep of the first snapshot at the start.
+fn places_of<'a>(alloc: Global, run: &'a str) -> Result<Vec<Place<'a>>, Fail> {
+    let mut places: Vec<Place<'a>> = Vec::new(alloc);
+    for (step, line) in run.trim().lines().enumerate() {
+        if let Some((_, calls)) = line.split_once(" | ") {
+            for call in calls.split(", ") {
+                let place = place_of(&places, step, call)?;
+                places.push(place)?;
+            }
+        }
+    }
+    Ok(places)
 }
 
-/// The calls of the devices in a run, each kind in its order, but for the keep of the first snapshot at the start. Of
-/// each put its step.
-#[derive(Clone, Copy)]
-struct Calls<'a> {
-    appends: &'a [Place],
-    keeps: &'a [Place],
-    fetches: &'a [Place],
-    loads: &'a [Place],
-    puts: &'a [usize],
+/// The call of a device behind these.
+fn place_of<'a>(places: &[Place<'a>], step: usize, call: &'a str) -> Result<Place<'a>, Fail> {
+    let mut words = call.split(" ");
+    let kind = words.next().unwrap_or("");
+    let count = |of: &str| places.iter().filter(|place| place.kind == of).count();
+    Ok(Place {
+        kind,
+        step,
+        before: count(kind) as u64,
+        lines: count("put"),
+        v: words.next().unwrap_or("0").parse::<u32>()?,
+        n: words.next().unwrap_or("0").parse::<u64>()?,
+    })
 }
 
 /// Where a run stops: in which step, with which fault, and how many bytes the sink's file has then.
@@ -38,13 +59,6 @@ struct Stop {
     step: usize,
     fault: VaultFault,
     bytes: usize,
-}
-
-/// A job with the steps of a run.
-#[derive(Clone, Copy)]
-struct Run<'a> {
-    job: SmallJob<'a>,
-    steps: &'a [Step],
 }
 
 /// How often the depot failed, the outputs failed and the depot was short, where this one fault came and no device was
@@ -59,17 +73,21 @@ fn counts_of(fault: VaultFault) -> (u64, u64, u64) {
 }
 
 /// Makes all calls of a run that stops, those behind the fault too.
-fn make_all(rt: &impl Abort, store: &mut Store, steps: &[Step], stop: Stop) -> Result<(), Fail> {
-    for (number, (call, answer)) in steps.iter().enumerate() {
-        let found = answer_to(store, *call)?;
-        let expected = if number < stop.step {
-            Ok(*answer)
-        } else if number == stop.step {
-            Err(stop.fault)
+fn make_all(alloc: Global, store: &mut Store, run: &str, stop: Stop) -> Result<(), Fail> {
+    let fault = format!(in alloc; "{:?}", stop.fault)?;
+    for (step, line) in run.trim().lines().enumerate() {
+        let (call, answer) = parts_of(line)?;
+        let expected = if step < stop.step {
+            answer
+        } else if step == stop.step {
+            fault.as_str()
         } else {
-            Err(VaultFault::Halted)
+            "Halted"
         };
-        assert!(rt; found == expected, "{stop:?}: {call:?}: {found:?}");
+        let found = answer_to(alloc, store, call)?;
+        if found.as_str() != expected {
+            return Err(Fail::new(format_args!("{stop:?}: {line}: {found}")));
+        }
     }
     Ok(())
 }
@@ -78,12 +96,12 @@ fn make_all(rt: &impl Abort, store: &mut Store, steps: &[Step], stop: Stop) -> R
 fn stops(
     rt: &impl Abort,
     alloc: Global,
-    case: Run<'_>,
+    job: SmallJob<'_>,
     trouble: Trouble,
     stop: Stop,
 ) -> Result<[u64; 2], Fail> {
-    let mut store = started(alloc, case.job, trouble)?;
-    make_all(rt, &mut store, case.steps, stop)?;
+    let mut store = started(alloc, job, trouble)?;
+    make_all(alloc, &mut store, job.run, stop)?;
     assert_eq!(rt; store.halted(), Some(stop.fault), "{trouble:?}");
     let (since, _) = store.counts();
     let stored = [store.row(0)?[1], store.row(1)?[1]];
@@ -92,211 +110,103 @@ fn stops(
     assert_eq!(rt; counts, counts_of(stop.fault), "{trouble:?}");
     let appended = [depot.appended(0), depot.appended(1)];
     assert!(rt; stored == appended, "{trouble:?}");
-    assert!(rt;
-        since == appended[0].saturating_add(appended[1]),
-        "{trouble:?}"
-    );
-    let lines = case.job.lines.as_bytes();
+    let all = appended[0].saturating_add(appended[1]);
+    assert!(rt; since == all, "{trouble:?}");
+    let lines = job.lines.as_bytes();
     assert!(rt; stop.bytes <= lines.len());
-    assert!(rt;
-        outputs.bytes(case.job.output) == &lines[..stop.bytes],
-        "{trouble:?}"
-    );
+    assert!(rt; outputs.bytes(job.output) == &lines[..stop.bytes], "{trouble:?}");
     Ok(stored)
 }
 
 /// The length of the first lines of a job.
-fn length_of(job: SmallJob<'_>, lines: usize) -> Result<usize, Fail> {
-    Ok(*job.ends.get(lines).ok_or("so many lines")?)
+fn length_of(job: SmallJob<'_>, lines: usize) -> usize {
+    let mut length = 0_usize;
+    for line in job.lines.lines().take(lines) {
+        length = length.saturating_add(line.len()).saturating_add(1);
+    }
+    length
 }
 
-/// Lets each of these calls of the depot fail, of which the first has this number.
-fn fail_each(
+/// Lets a call of the depot fail.
+fn fail(
     rt: &impl Abort,
     alloc: Global,
-    case: Run<'_>,
-    which: DepotCall,
-    first: u64,
-    places: &[Place],
+    job: SmallJob<'_>,
+    place: &Place<'_>,
+    trouble: Trouble,
+    fault: VaultFault,
 ) -> Result<(), Fail> {
-    for (number, place) in places.iter().enumerate() {
+    let stop = Stop {
+        step: place.step,
+        fault,
+        bytes: length_of(job, place.lines),
+    };
+    let stored = stops(rt, alloc, job, trouble, stop)?;
+    if place.kind == "append" {
+        let dur = *stored.get(place.v as usize).ok_or("a stream")?;
+        assert!(rt; dur == place.n, "{trouble:?}");
+    }
+    Ok(())
+}
+
+/// Lets a put fail behind no byte, one, and all.
+fn fail_put(
+    rt: &impl Abort,
+    alloc: Global,
+    job: SmallJob<'_>,
+    place: &Place<'_>,
+) -> Result<(), Fail> {
+    let before = length_of(job, place.lines);
+    let after = length_of(job, place.lines.saturating_add(1));
+    for (kept, bytes) in [(0, before), (1, before.saturating_add(1)), (1000, after)] {
         let stop = Stop {
             step: place.step,
-            fault: VaultFault::Store { count: 1 },
-            bytes: length_of(case.job, place.lines)?,
+            fault: VaultFault::Output { count: 1 },
+            bytes,
         };
-        let trouble = Trouble::Call(which, first.saturating_add(number as u64));
-        let stored = stops(rt, alloc, case, trouble, stop)?;
-        if which == DepotCall::Append {
-            let dur = *stored.get(place.v as usize).ok_or("a stream")?;
-            assert!(rt; dur == place.n, "{trouble:?}");
-        }
+        let number = place.before.saturating_add(1);
+        stops(rt, alloc, job, Trouble::Put { number, kept }, stop)?;
     }
     Ok(())
 }
 
-/// Lets each of these fetches, or loads, give a short answer.
-fn damage_each(
+/// Lets a call of a device go wrong in each way.
+fn trouble_at(
     rt: &impl Abort,
     alloc: Global,
-    case: Run<'_>,
-    of_fetches: bool,
-    places: &[Place],
+    job: SmallJob<'_>,
+    place: &Place<'_>,
 ) -> Result<(), Fail> {
-    for (number, place) in places.iter().enumerate() {
-        let (v, n) = (place.v, place.n);
-        let stop = Stop {
-            step: place.step,
-            fault: VaultFault::Damaged { v, n },
-            bytes: length_of(case.job, place.lines)?,
-        };
-        let number = 1 + number as u64;
-        let trouble = if of_fetches {
-            Trouble::ShortFetch(number)
-        } else {
-            Trouble::ShortLoad(number)
-        };
-        stops(rt, alloc, case, trouble, stop)?;
-    }
-    Ok(())
-}
-
-/// Lets each put fail behind no byte, one, and all.
-fn fail_each_put(
-    rt: &impl Abort,
-    alloc: Global,
-    case: Run<'_>,
-    puts: &[usize],
-) -> Result<(), Fail> {
-    for (lines, step) in puts.iter().enumerate() {
-        let before = length_of(case.job, lines)?;
-        let after = length_of(case.job, lines.saturating_add(1))?;
-        let cases = [(0, before), (1, before.saturating_add(1)), (1000, after)];
-        for (kept, bytes) in cases {
-            let stop = Stop {
-                step: *step,
-                fault: VaultFault::Output { count: 1 },
-                bytes,
-            };
-            let number = 1 + lines as u64;
-            stops(rt, alloc, case, Trouble::Put { number, kept }, stop)?;
+    let number = place.before.saturating_add(1);
+    let failed = VaultFault::Store { count: 1 };
+    let (v, n) = (place.v, place.n);
+    let damaged = VaultFault::Damaged { v, n };
+    let call = match place.kind {
+        "append" => Trouble::Call(DepotCall::Append, number),
+        // The first snapshot was kept at the start.
+        "keep" => Trouble::Call(DepotCall::Keep, number.saturating_add(1)),
+        "fetch" => {
+            fail(rt, alloc, job, place, Trouble::ShortFetch(number), damaged)?;
+            Trouble::Call(DepotCall::Fetch, number)
         }
-    }
-    Ok(())
+        "load" => {
+            fail(rt, alloc, job, place, Trouble::ShortLoad(number), damaged)?;
+            Trouble::Call(DepotCall::Load, number)
+        }
+        _ => return fail_put(rt, alloc, job, place),
+    };
+    fail(rt, alloc, job, place, call, failed)
 }
 
 /// Lets each call of each device go wrong.
-fn trouble_each(
-    rt: &impl Abort,
-    alloc: Global,
-    case: Run<'_>,
-    calls: &Calls<'_>,
-) -> Result<(), Fail> {
-    fail_each(rt, alloc, case, DepotCall::Append, 1, calls.appends)?;
-    fail_each(rt, alloc, case, DepotCall::Keep, 2, calls.keeps)?;
-    fail_each(rt, alloc, case, DepotCall::Fetch, 1, calls.fetches)?;
-    fail_each(rt, alloc, case, DepotCall::Load, 1, calls.loads)?;
-    damage_each(rt, alloc, case, true, calls.fetches)?;
-    damage_each(rt, alloc, case, false, calls.loads)?;
-    fail_each_put(rt, alloc, case, calls.puts)
-}
-
 #[test]
-fn a_select_stops_at_each_call(rt: HostRuntime) -> Result<(), Fail> {
-    let case = Run {
-        job: SELECT,
-        steps: &run_of_select()?,
-    };
-    let calls = Calls {
-        appends: &[
-            place_of(0, 0, 0, 0),
-            place_of(0, 0, 1, 0),
-            place_of(0, 0, 2, 0),
-            place_of(1, 0, 3, 0),
-            place_of(4, 1, 0, 0),
-            place_of(4, 1, 1, 0),
-            place_of(16, 1, 2, 2),
-            place_of(16, 1, 3, 2),
-        ],
-        keeps: &[place_of(5, 1, 2, 0), place_of(8, 1, 3, 0)],
-        fetches: &[
-            place_of(11, 0, 0, 0),
-            place_of(13, 1, 0, 0),
-            place_of(14, 1, 1, 1),
-            place_of(17, 1, 2, 2),
-            place_of(18, 1, 3, 3),
-            place_of(20, 1, 3, 4),
-        ],
-        loads: &[place_of(9, 1, 2, 0), place_of(10, 1, 3, 0)],
-        puts: &[13, 14, 17, 18],
-    };
-    trouble_each(&rt, rt.alloc(), case, &calls)
-}
-
-#[test]
-fn a_source_stops_at_each_call(rt: HostRuntime) -> Result<(), Fail> {
-    let case = Run {
-        job: COPY,
-        steps: &run_of_copy(),
-    };
-    let calls = Calls {
-        appends: &[
-            place_of(0, 0, 0, 0),
-            place_of(0, 0, 1, 0),
-            place_of(7, 0, 2, 2),
-        ],
-        keeps: &[],
-        fetches: &[
-            place_of(1, 0, 0, 0),
-            place_of(2, 0, 1, 1),
-            place_of(4, 0, 1, 1),
-            place_of(8, 0, 2, 2),
-        ],
-        loads: &[],
-        puts: &[1, 4, 8],
-    };
-    trouble_each(&rt, rt.alloc(), case, &calls)
-}
-
-#[test]
-fn a_window_stops_at_each_call(rt: HostRuntime) -> Result<(), Fail> {
-    let case = Run {
-        job: WINDOW,
-        steps: &run_of_window(),
-    };
-    let calls = Calls {
-        appends: &[
-            place_of(6, 1, 0, 0),
-            place_of(6, 1, 1, 0),
-            place_of(6, 1, 2, 0),
-            place_of(8, 0, 0, 0),
-            place_of(8, 0, 1, 0),
-            place_of(8, 0, 2, 0),
-            place_of(8, 0, 3, 0),
-            place_of(13, 1, 3, 3),
-            place_of(13, 1, 4, 3),
-        ],
-        keeps: &[
-            place_of(0, 1, 1, 0),
-            place_of(2, 1, 3, 0),
-            place_of(3, 1, 2, 0),
-            place_of(15, 1, 4, 3),
-        ],
-        fetches: &[
-            place_of(9, 1, 0, 0),
-            place_of(10, 1, 1, 1),
-            place_of(11, 1, 2, 2),
-            place_of(17, 1, 3, 3),
-            place_of(18, 1, 4, 4),
-            place_of(20, 1, 2, 5),
-        ],
-        loads: &[
-            place_of(4, 1, 2, 0),
-            place_of(5, 1, 3, 0),
-            place_of(14, 1, 3, 3),
-            place_of(16, 1, 4, 3),
-        ],
-        puts: &[9, 10, 11, 17, 18],
-    };
-    trouble_each(&rt, rt.alloc(), case, &calls)
+fn a_run_stops_at_each_call_of_a_device(rt: HostRuntime) -> Result<(), Fail> {
+    for (job, calls) in [(SELECT, 22), (COPY, 10), (WINDOW, 28)] {
+        let places = places_of(rt.alloc(), job.run)?;
+        assert_eq!(rt; places.len(), calls);
+        for place in places.iter() {
+            trouble_at(&rt, rt.alloc(), job, place)?;
+        }
+    }
+    Ok(())
 }

@@ -19,7 +19,7 @@ vertex = [
     input: "",
     output: "o.csv",
     lines: "end\n",
-    ends: &[0, 4],
+    run: "",
 };
 
 /// The start fails at the keep of this number, which isn't tried again, and hands its devices back.

@@ -1,4 +1,4 @@
-//! The tests of instances of vertices: what they accept and give, their snapshots, and that they go on from one as if
+//! The tests of plans and of instances of vertices: what they accept and give, their snapshots, and that they go on from one as if
 //! they had never stopped. They stand apart from what they test, so that no library is proved twice.
 #![tactic(auto)]
 
@@ -14,6 +14,8 @@ mod leaving;
 mod limits;
 #[cfg(test)]
 mod listed;
+#[cfg(test)]
+mod plans;
 #[cfg(test)]
 mod run;
 #[cfg(test)]
