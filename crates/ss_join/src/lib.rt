@@ -12,3 +12,4 @@ mod side;
 pub use image_laws::{image_examples, images_are_read_again, wide_image_examples};
 pub use join::Join;
 pub use ss_image::ImageFault;
+pub use std::alloc::AllocError as Memory;

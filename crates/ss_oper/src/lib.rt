@@ -8,3 +8,4 @@ mod oper;
 
 pub use laws::images_are_read_again;
 pub use oper::Oper;
+pub use std::alloc::AllocError as Memory;

@@ -13,3 +13,4 @@ mod work;
 pub use fault::{ExecFault, LoadFault, SnapFault};
 pub use inst::Inst;
 pub use laws::{instances_are_numbered, replicas_are_equal, snapshots_fit};
+pub use std::alloc::AllocError as Memory;

@@ -15,4 +15,5 @@ mod window;
 
 pub use image_laws::{image_examples, images_are_read_again};
 pub use ss_image::ImageFault;
+pub use std::alloc::AllocError as Memory;
 pub use window::{Window, few_arrivals_are_few_rows};
