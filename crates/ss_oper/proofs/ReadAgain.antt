@@ -1,23 +1,22 @@
 -- The images of what windows and joins remember are read again.
-use Rattle.std.proofs.Common.{◌≡◌, ℕ, ◌+◌, ◌-◌, ◌*◌, nat_lt, nat_le, ◌&&◌, get_or, take, drop, Some, None, take-append-drop, append_assoc, ◌^◌, ◌<◌, ◌≤◌, Bool, true, false, cond, List, [], ◌∷◌, ◌++◌, length, map, filter, All, Ok, Err, Result, refl, sym, ap, ◌∙◌, subst, arith}
+use Rattle.std.proofs.Common.{◌≡◌, ℕ, ◌+◌, ◌-◌, ◌*◌, nat_lt, nat_le, ◌&&◌, get_or, take, drop, Some, None, take-append-drop, append_assoc, ◌^◌, ◌<◌, ◌≤◌, Bool, true, false, cond, List, [], ◌∷◌, ◌++◌, length, map, filter, All, Ok, refl, sym, ap, ◌∙◌, subst, arith}
 use Rattle.std.proofs.lemmas.List.{drop_more}
 use Rattle.std.proofs.lemmas.List.Elements.{All-from_recursion, recursion_from_All}
-use Rattle.std.specs.List.{AllByRecursion, flat_map}
+use Rattle.std.specs.List.{AllByRecursion}
 use Rattle.ss_elem.specs.Validity.{top, Whole, next_bound}
 use Rattle.ss_elem.specs.declared.element.Event.{Event}
 use Rattle.ss_elem.specs.declared.element.Element.{Element}
 use Rattle.ss_elem.specs.declared.element.Element.TheVariants.{Row, Cti, End}
-use Rattle.ss_expr.specs.Operators.{operator_of, HasWholeHops, IsComputable}
+use Rattle.ss_expr.specs.Operators.{operator_of, HasWholeHops}
 use Rattle.ss_expr.specs.declared.stream_operator.Agg.{Agg}
 use Rattle.ss_expr.specs.declared.stream_operator.Field.{Field}
-use Rattle.ss_expr.specs.declared.stream_operator.Spec.{Spec}
 use Rattle.ss_expr.specs.declared.stream_operator.Spec.TheVariants as spec
 use Rattle.ss_image.specs.Images.{image_of}
 use Rattle.ss_join.specs.ImageLaws.{IsTaken}
 use Rattle.ss_join.specs.ImageLaws as join
 use Rattle.ss_join.specs.States.{Sides}
 use Rattle.ss_meaning.specs.Bound.{row_of, rows, bound}
-use Rattle.ss_meaning.specs.Entries.{Entries, entries_after, entry_count, window_entries, join_side}
+use Rattle.ss_meaning.specs.Entries.{entries_after, entry_count, window_entries, join_side}
 use Rattle.ss_meaning.specs.Inputs.{bounds}
 use Rattle.ss_meaning.specs.Laws.{ArrivalsMayFollow}
 use Rattle.ss_meaning.specs.Low.{low}

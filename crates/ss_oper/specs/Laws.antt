@@ -1,5 +1,5 @@
 -- What holds of the images of operators.
-use Rattle.std.specs.Prelude.{◌≡◌, ℕ, ◌+◌, ◌^◌, ◌<◌, ◌≤◌, List, ◌++◌, length, All, Ok}
+use Rattle.std.specs.Prelude.{◌≡◌, ◌+◌, ◌^◌, ◌<◌, ◌≤◌, List, ◌++◌, length, All, Ok}
 use Rattle.ss_elem.specs.Rows.{IsKept}
 use Rattle.ss_elem.specs.Validity.{Whole}
 use Rattle.ss_elem.specs.declared.element.Element.{Element}
