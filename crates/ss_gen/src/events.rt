@@ -1,27 +1,17 @@
 ghost use Rattle.std.specs.Prelude.{◌≡◌, ◌+◌, ◌*◌, ◌<◌, ◌++◌, OnErr, OnOk};
 ghost use Rattle.ss_gen.specs.Draws.{state_after};
-ghost use Rattle.ss_gen.specs.Events.{cti_text, end_of, events_text, first_value_of, key_of, less_500, row_text};
-ghost use Rattle.ss_gen.specs.Events.{rows_text, second_value_of, start_of};
+ghost use Rattle.ss_gen.specs.Events.{cti_text, drawn_of, events_text, less_500, row_text, rows_text};
+ghost use Rattle.ss_gen.specs.Rows.{row_told};
 ghost use Rattle.ss_gen.specs.Texts.{Extends};
 
 use crate::Memory;
 use crate::draws::Draws;
+use crate::row::Row;
 use crate::put::put;
 use itoa::Buffer;
 
 /// How many rows a file has.
 const ROWS: u64 = 20_000;
-
-/// What is drawn of a row.
-#[derive(Clone, Copy)]
-struct Row {
-    start: u64,
-    end: u64,
-    key: u64,
-    /// The first value and 500.
-    first: u64,
-    second: u64,
-}
 
 /// Appends the text of an event file that is the same whenever it is made with this seed, or nothing.
 pub fn gen_events(seed: u64, out: &mut Vec<u8>) -> Result<(), Memory>
@@ -66,11 +56,7 @@ fn drawn_row(i: u64, seed: u64, draws: &mut Draws) -> Row
     requires few { i < 20000 }
     requires place { draws.old ≡ state_after seed (5 * i) }
     ensures place { draws.new ≡ state_after seed (5 * (i + 1)) }
-    ensures start { result.start ≡ start_of seed i }
-    ensures end { result.end ≡ end_of seed i }
-    ensures key { result.key ≡ key_of seed i }
-    ensures first { result.first ≡ first_value_of seed i }
-    ensures second { result.second ≡ second_value_of seed i }
+    ensures drawn { row_told result ≡ drawn_of seed i }
 {
     let start = 8 * i + draws.below(8);
     let end = start + 1 + draws.below(64);

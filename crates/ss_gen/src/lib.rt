@@ -5,6 +5,7 @@ mod draws;
 mod events;
 mod job;
 mod put;
+mod row;
 
 pub use events::gen_events;
 pub use job::gen_job;
