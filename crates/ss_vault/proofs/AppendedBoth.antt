@@ -2,8 +2,8 @@
 use Rattle.std.proofs.Common.{◌≡◌, ◌≢◌, ℕ, suc, ◌+◌, ◌<◌, ◌≤◌, ◌==◌, Bool, true, Option, Some, None, List, [], ◌∷◌, ◌++◌, length, take, refl, sym, ap, ◌∙◌, subst, arith, ⊎_elim, if◌then◌else◌, All, append_assoc, length-append}
 use Rattle.std.specs.Prelude.{IsTrue, is_some}
 use Rattle.std.proofs.lemmas.Bool.{cases_eq}
-use Rattle.std.proofs.lemmas.List.{take-append-le, take_all}
-use Rattle.std.proofs.lemmas.List.Elements.{All-append}
+use Rattle.std.proofs.lemmas.List.{drop_at, take-append-le, take_all, take_at}
+use Rattle.std.proofs.lemmas.List.Elements.{All-append, All-drop, All-take}
 use Rattle.ss_codec.specs.Record.{HasRecord}
 use Rattle.ss_elem.specs.declared.element.Element.{Element}
 use Rattle.ss_outside.specs.Depot.{Contents, DepotTold}
@@ -17,10 +17,12 @@ use Rattle.ss_vault.proofs.Records.{records_from-append}
 
 -- what all elements have those of each slice have
 pub all_first : {X : Type 0} (P : X → Type 0) (xs ys : List X) → All P (xs ++ ys) → All P xs
-all_first P xs ys all = ?
+all_first P xs ys all =
+    subst (λ zs. All P zs) (take_at xs ys (length xs) refl) (All-take P (length xs) (xs ++ ys) all)
 
 pub all_rest : {X : Type 0} (P : X → Type 0) (xs ys : List X) → All P (xs ++ ys) → All P ys
-all_rest P xs ys all = ?
+all_rest P xs ys all =
+    subst (λ zs. All P zs) (drop_at xs ys (length xs) refl) (All-drop P (length xs) (xs ++ ys) all)
 
 -- where the rest wasn't come to
 pub appended_front : (a b : DepotTold) (v n count : ℕ) (xs ys : List Element) → Appended a b v n xs count → Appended a b v n (xs ++ ys) count
@@ -100,3 +102,6 @@ stops_both a b c count more xs ys (Some (fault.Output faults)) less all stops = 
 stops_both a b c count more xs ys (Some (fault.Damaged v n)) less all stops = stops
 stops_both a b c count more xs ys (Some fault.Halted) less all stops = stops
 stops_both a b c count more xs ys (Some fault.Memory) less all stops = omega (arith, all, stops, length-append xs ys)
+
+pub none_stops : (a b : DepotTold) (count all : ℕ) (stop : Option VaultFault) → stop ≡ None → StopsAppending a b count all stop → count ≡ all
+none_stops a b count all stop is stops = subst (λ (o : Option VaultFault). StopsAppending a b count all o) is stops

@@ -1,0 +1,5 @@
+pub mod Draws
+pub mod Events
+pub mod Job
+pub mod Rows
+pub mod Texts
