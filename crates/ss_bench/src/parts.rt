@@ -35,6 +35,8 @@ pub(crate) fn records(alloc: Global, count: u32) -> Option<u64> {
             key,
             a: 1,
             b: 2,
+            c: 0,
+            d: 0,
         });
         if let Ok(_) = valid_next(Bound::ZERO, &row) {
             put_element(0, start, &row, &mut out).ok()?;

@@ -15,7 +15,7 @@ use Rattle.ss_expr.specs.Operators.{operator_of}
 use Rattle.ss_expr.specs.declared.stream_operator.Spec.{Spec}
 use Rattle.ss_expr.specs.declared.stream_operator.Spec.TheVariants as spec
 use Rattle.ss_image.specs.Images.{image_of}
-use Rattle.ss_image.specs.Laws.{WindowImagesHaveLengths, JoinImagesHaveLengths}
+use Rattle.ss_image.specs.Laws.{WindowImagesHaveLengths, JoinImagesAreShort}
 use Rattle.ss_job.specs.JobText.{spec_of}
 use Rattle.ss_meaning.specs.Bound.{bound, bound_past}
 use Rattle.ss_meaning.specs.Entries.{Entries, NoEntries, WindowEntries, JoinRows}
@@ -167,7 +167,7 @@ bound_at laws plan is v n operator o input h =
 
 pub record LengthLaws : Type 0 where
   pub window : WindowImagesHaveLengths
-  pub join : JoinImagesHaveLengths
+  pub join : JoinImagesAreShort
   pub frame : FramesHaveLengths
 
 image_short : LengthLaws → (entries : Entries) → AreFew entries → length (image_of entries) < 2 ^ 31
@@ -176,7 +176,7 @@ image_short laws (WindowEntries es) few = let short = few.0 in omega (arith, law
 image_short laws (JoinRows left right) few = omega (arith, laws.join left right, few)
 
 op_is : (operator : Spec) → (1 ≤ op_number operator) × (op_number operator ≤ 4)
-op_is (spec.Select test a b) = (omega arith, omega arith)
+op_is (spec.Select test a b c d) = (omega arith, omega arith)
 op_is spec.Union = (omega arith, omega arith)
 op_is (spec.Window size hop agg of) = (omega arith, omega arith)
 op_is spec.Join = (omega arith, omega arith)

@@ -151,7 +151,7 @@ each_few es m h all i d k = let here = all i d k in omega (arith, here, h)
 
 pub few_at : EntryLaws → (plan : PlanText) → IsPlan plan → (v n : ℕ) (operator : Spec) → IsOperatorAt plan v operator → IsWithin plan v n
     → AreFew (entries_at plan v n operator)
-few_at laws plan is v n (spec.Select test a b) o within = tt
+few_at laws plan is v n (spec.Select test a b c d) o within = tt
 few_at laws plan is v n spec.Union o within = tt
 few_at laws plan is v n (spec.Window size hop agg of) o within =
     let window : Window = record { size = size; hop = hop; aggregate = aggregate_of agg; field = field_of of } in

@@ -34,7 +34,7 @@ padded_zeros n h =
 
 image_is : (operator : Spec) (inputs : ℕ) → image_of (entries_after (operator_of operator) inputs []) ≡ first_image operator
 unfolding window_image join_image number_bytes
-image_is (spec.Select test a b) inputs = refl
+image_is (spec.Select test a b c d) inputs = refl
 image_is spec.Union inputs = refl
 image_is (spec.Window size hop agg of) inputs = refl
 image_is spec.Join inputs = refl

@@ -33,7 +33,7 @@ pub record IsOperatorAt (plan : PlanText) (v : ℕ) (operator : Spec) : Type 0 w
   pub most : inputs_at plan v ≤ 8
 
 few_inputs : (s : Spec) (n : ℕ) → IsFrom (fewest_inputs (op_of_spec s)) (most_inputs (op_of_spec s)) n → (1 ≤ n) × (n ≤ 8)
-few_inputs (spec.Select test a b) n h = let least = h.least_of in let most = h.most_of in (omega (arith, least), omega (arith, most))
+few_inputs (spec.Select test a b c d) n h = let least = h.least_of in let most = h.most_of in (omega (arith, least), omega (arith, most))
 few_inputs spec.Union n h = let least = h.least_of in let most = h.most_of in (omega (arith, least), omega (arith, most))
 few_inputs (spec.Window size hop agg of) n h = let least = h.least_of in let most = h.most_of in (omega (arith, least), omega (arith, most))
 few_inputs spec.Join n h = let least = h.least_of in let most = h.most_of in (omega (arith, least), omega (arith, most))

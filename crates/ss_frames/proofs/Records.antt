@@ -8,8 +8,9 @@ use Rattle.std.proofs.lemmas.Bool.{and_parts, and_from, ltb-true, lt-ltb, le-leb
 use Rattle.std.proofs.lemmas.Int.{ints}
 use Rattle.std.proofs.lemmas.List.{length-append, length-map}
 use Rattle.std.proofs.lemmas.List.Elements.{recursion_from_All, All-from_recursion}
-use Rattle.ss_codec.specs.Record.{HasRecord, IsKept}
+use Rattle.ss_codec.specs.Record.{HasRecord}
 use Rattle.ss_elem.specs.Key.{IsKeyNumber}
+use Rattle.ss_elem.specs.Rows.{IsKept}
 use Rattle.ss_elem.specs.Validity.{top, next_bound, bound_from}
 use Rattle.ss_elem.specs.declared.element.Event.{Event}
 use Rattle.ss_elem.specs.declared.element.Element.{Element}
@@ -37,7 +38,7 @@ use Rattle.ss_frames.specs.Ranges.{IsSpecOfProgram, IsOfProgram}
 use Rattle.ss_frames.proofs.Codes.{JobLaws, merged_is}
 use Rattle.ss_frames.proofs.Few.{filter_fewer, rows_fewer}
 use Rattle.ss_frames.proofs.Operators.{is_operator, mlen_is}
-use Rattle.ss_frames.proofs.Values.{IsShortRow, computed_fits}
+use Rattle.ss_frames.proofs.Values.{IsShortRow, computed_fits, zero_fits}
 use Rattle.ss_frames.proofs.Vertices.{stands}
 
 -- ---- what holds of each element of a list
@@ -162,24 +163,30 @@ window_kept window seen before after few h =
     keys : (w : ℕ) → AllByRecursion IsKeyNumber (window_keys window seen w)
     keys w =
         rising_kept IsKeyNumber (map (λ (row : Event). row.key) (filter (belongs window w) seen))
-        (each_map (IsRow IsTaken) IsKeyNumber (λ (row : Event). row.key) (λ row e. e.0.0) (filter (belongs window w) seen)
+        (each_map (IsRow IsTaken) IsKeyNumber (λ (row : Event). row.key) (λ row e. e.0.is_key) (filter (belongs window w) seen)
         (each_filter (IsRow IsTaken) (belongs window w) seen h))
 
     row_kept : (w key : ℕ) → IsKeyNumber key → IsRow IsKept (window_row window seen w key)
     row_kept w key k =
         let counted = window_members window seen w key in
         let fewer : length counted ≤ length seen = filter_fewer (λ (row : Event). belongs window w row && row.key == key) seen in
-        (k, bits_fit (window.aggregate (map window.field counted)), count_fits (length counted) (omega (arith, fewer, few)))
+        record {
+          is_key = k;
+          a = bits_fit (window.aggregate (map window.field counted));
+          b = count_fits (length counted) (omega (arith, fewer, few));
+          c = zero_fits;
+          d = zero_fits;
+        }
 
 joined_kept : (input : ℕ) (x y : Event) → IsRow IsTaken x → IsRow IsTaken y → IsRow IsKept (joined_from input x y)
 joined_kept input x y h k = by_test (input == 0)
   where
     by_test : (b : Bool) → IsRow IsKept (cond b (joined x y) (joined y x))
-    by_test true = (h.0.0, h.0.1, k.0.1)
-    by_test false = (k.0.0, k.0.1, h.0.1)
+    by_test true = record { is_key = h.0.is_key; a = h.0.a; b = k.0.a; c = h.0.c; d = k.0.c }
+    by_test false = record { is_key = k.0.is_key; a = k.0.a; b = h.0.a; c = k.0.c; d = h.0.c }
 
 short_row : (row : Event) → IsRow IsTaken row → IsShortRow row
-short_row row h = record { times = h.1; a = h.0.1; b = h.0.2 }
+short_row row h = record { times = h.1; a = h.0.a; b = h.0.b; c = h.0.c; d = h.0.d }
 
 arrived_fewer : (input : ℕ) (p : List Arrival) → length (rows (from_input input p)) ≤ length p
 arrived_fewer input p =
@@ -192,10 +199,16 @@ arrived_fewer input p =
 
 rows_kept : (operator : Spec) → IsSpecOfProgram operator → (inputs : ℕ) (p : List Arrival) (x : Arrival) → length p < 2 ^ 63
     → AllByRecursion (ArrivesAs IsTaken) p → IsTaken x.element → AllByRecursion (IsRow IsKept) (rows_at (operator_of operator) inputs p x)
-rows_kept (spec.Select test a b) of inputs p x few h k =
-    let select = selection_of test a b in
+rows_kept (spec.Select test a b c d) of inputs p x few h k =
+    let select = selection_of test a b c d in
     each_map (IsRow IsTaken) (IsRow IsKept) (revalued select)
-    (λ row e. (e.0.0, computed_fits a row of.0 (short_row row e), computed_fits b row of.1 (short_row row e)))
+    (λ row e. record {
+      is_key = e.0.is_key;
+      a = computed_fits a row of.0 (short_row row e);
+      b = computed_fits b row of.1 (short_row row e);
+      c = computed_fits c row of.2 (short_row row e);
+      d = computed_fits d row of.3 (short_row row e);
+    })
     (filter select.test (row_of x.element)) (each_filter (IsRow IsTaken) select.test (row_of x.element) (rows_of_one IsTaken x.element k))
 rows_kept spec.Union of inputs p x few h k = rows_of_one IsKept x.element k.0
 rows_kept (spec.Window size hop agg field) of inputs p x few h k =

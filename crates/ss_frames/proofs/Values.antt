@@ -24,7 +24,7 @@ pub clamp_fits : (z : ℤ) → FitsSigned w64 (clamp z)
 clamp_fits (pos n) = omega (arith, ints)
 clamp_fits (negsuc n) = omega (arith, ints)
 
-zero_fits : FitsSigned w64 (pos 0)
+pub zero_fits : FitsSigned w64 (pos 0)
 zero_fits = omega (arith, ints)
 
 abs_small : (y : ℤ) → FitsSigned w64 y → unsigned_abs y ≤ 2 ^ 63
@@ -64,6 +64,8 @@ pub record IsShortRow (row : Event) : Type 0 where
   pub times : HasShortTimes row
   pub a : FitsSigned w64 row.a
   pub b : FitsSigned w64 row.b
+  pub c : FitsSigned w64 row.c
+  pub d : FitsSigned w64 row.d
 
 atom_fits : (a : Atom) (row : Event) → IsAtomOfProgram a → IsShortRow row → IsShortValue (atom_value a row)
 atom_fits (atom.Number n) row h k = h
@@ -73,6 +75,8 @@ atom_fits atom.End row h k = let early = k.times.1 in omega (arith, ints, early)
 atom_fits atom.Subject row h k = tt
 atom_fits atom.A row h k = k.a
 atom_fits atom.B row h k = k.b
+atom_fits atom.C row h k = k.c
+atom_fits atom.D row h k = k.d
 
 unary_fits : (op : UnaryOp) (v : Value) → IsShortValue v → IsShortValue (unary_value op v)
 unary_fits Negate (Num n) h = clamp_fits (neg_ℤ n)

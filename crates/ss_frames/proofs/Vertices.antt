@@ -80,7 +80,7 @@ read_is role node (sink file) list h (suc i) k = let most = h.inputs.most_of in 
 
 kind_by_text : (node : Node) (text : VertexText) (list : List Element) → numbers.kind_of (vertex_at node text list) ≡ kind_of (op_of_vertex text)
 kind_by_text node (source file late) list = refl
-kind_by_text node (inner (spec.Select test a b) policy) list = refl
+kind_by_text node (inner (spec.Select test a b c d) policy) list = refl
 kind_by_text node (inner spec.Union policy) list = refl
 kind_by_text node (inner (spec.Window size hop agg of) policy) list = refl
 kind_by_text node (inner spec.Join policy) list = refl

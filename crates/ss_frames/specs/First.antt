@@ -7,7 +7,7 @@ use Rattle.ss_frames.specs.Frames.{op_number}
 
 -- the image of no entries: a select and a union have no bytes, a window says one count, and a join two
 abbrev pub first_image : Spec → List ℕ
-first_image (spec.Select test a b) = []
+first_image (spec.Select test a b c d) = []
 first_image spec.Union = []
 first_image (spec.Window size hop agg of) = replicate 4 0
 first_image spec.Join = replicate 8 0

@@ -16,7 +16,7 @@ use Rattle.ss_plan.specs.Plan.{PlanText, vertices_of}
 
 -- the number by which a frame tells its operator
 abbrev pub op_number : Spec → ℕ
-op_number (spec.Select test a b) = 1
+op_number (spec.Select test a b c d) = 1
 op_number spec.Union = 2
 op_number (spec.Window size hop agg of) = 3
 op_number spec.Join = 4

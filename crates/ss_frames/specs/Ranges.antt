@@ -1,7 +1,7 @@
 -- What of a plan is in range by the types of the program.
 use Rattle.std.specs.Prelude.{◌≡◌, ℕ, All, FitsSigned, Some}
 use Rattle.std.specs.Int.{w64}
-use Rattle.ss_codec.specs.Record.{IsKept}
+use Rattle.ss_elem.specs.Rows.{IsKept}
 use Rattle.ss_expr.specs.Tree.{Tree, leaf, unary, binary}
 use Rattle.ss_expr.specs.declared.atom.Atom.{Atom}
 use Rattle.ss_expr.specs.declared.atom.Atom.TheVariants as atom
@@ -19,6 +19,8 @@ IsAtomOfProgram atom.End = Unit {0}
 IsAtomOfProgram atom.Subject = Unit {0}
 IsAtomOfProgram atom.A = Unit {0}
 IsAtomOfProgram atom.B = Unit {0}
+IsAtomOfProgram atom.C = Unit {0}
+IsAtomOfProgram atom.D = Unit {0}
 
 -- each of its numbers has
 abbrev pub IsTreeOfProgram : Tree → Type 0
@@ -28,7 +30,8 @@ IsTreeOfProgram (binary op at l r) = IsTreeOfProgram l × IsTreeOfProgram r
 
 -- what a select computes its new values with
 abbrev pub IsSpecOfProgram : Spec → Type 0
-IsSpecOfProgram (spec.Select test a b) = IsTreeOfProgram a × IsTreeOfProgram b
+IsSpecOfProgram (spec.Select test a b c d) =
+    IsTreeOfProgram a × IsTreeOfProgram b × IsTreeOfProgram c × IsTreeOfProgram d
 IsSpecOfProgram spec.Union = Unit {0}
 IsSpecOfProgram (spec.Window size hop agg of) = Unit {0}
 IsSpecOfProgram spec.Join = Unit {0}

@@ -1,6 +1,6 @@
 -- How far a vertex may have come, and what it holds there.
 use Rattle.std.specs.Prelude.{◌≡◌, ℕ, ◌+◌, ◌^◌, ◌<◌, ◌≤◌, length, All}
-use Rattle.ss_codec.specs.Record.{IsKept}
+use Rattle.ss_elem.specs.Rows.{IsKept}
 use Rattle.ss_codec.specs.declared.frame.Frame.{Frame}
 use Rattle.ss_meaning.specs.Entries.{Entries, NoEntries, WindowEntries, JoinRows, entries_after}
 use Rattle.ss_meaning.specs.Positions.{mlen, pos, positions, out}

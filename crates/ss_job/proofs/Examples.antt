@@ -99,7 +99,7 @@ a_window = refl
 abbrev select_table : Members
 select_table = member (codes "inputs") (one_text (codes "a")) (member (codes "name") (string (codes "s")) (member (codes "op") (string (codes "select")) no_members))
 
-pub a_select : job_of (document (source_table ∷ select_table ∷ sink_table (codes "z") (codes "s") ∷ [])) ≡ Ok (the_job (codes "s") (spec.Select None (leaf 0 atom.A) (leaf 0 atom.B)))
+pub a_select : job_of (document (source_table ∷ select_table ∷ sink_table (codes "z") (codes "s") ∷ [])) ≡ Ok (the_job (codes "s") (spec.Select None (leaf 0 atom.A) (leaf 0 atom.B) (leaf 0 atom.C) (leaf 0 atom.D)))
 a_select = refl
 
 -- ---- the first fault

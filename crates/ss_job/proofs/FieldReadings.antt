@@ -21,7 +21,7 @@ use Rattle.ss_job.specs.Wrong.{fault_if, range_faults, is_within, is_multiple, o
 use Rattle.ss_job.specs.declared.fault.JobWhy.{JobWhy}
 use Rattle.ss_job.specs.declared.fault.JobWhy.TheVariants.{BadWord}
 use Rattle.ss_job.specs.declared.field_name.FieldName.{FieldName}
-use Rattle.ss_job.specs.declared.field_name.FieldName.TheVariants.{Late, Where, A, B, Size, Hop, Agg, Of, Recover, Every, Replicas}
+use Rattle.ss_job.specs.declared.field_name.FieldName.TheVariants.{Late, Where, A, B, C, D, Size, Hop, Agg, Of, Recover, Every, Replicas}
 use Rattle.ss_job.specs.declared.op.Op.{Op}
 use Rattle.ss_job.proofs.Readings.{Reads, done, found, made}
 
@@ -102,7 +102,7 @@ pub expression_reads : (field : FieldName) (kind : ValueKind) (words : List ℕ)
 unfolding expression_with
 expression_reads field kind words = if_kind_reads field kind (leaf 0 atom.A) (expression_of words)
 
--- the texts `a` and `b` are numbers of a row
+-- the texts `a`, `b`, `c` and `d` are numbers of a row
 pub default_a_reads : Reads (expression_with A Num (codes "a")) [] (tree_of_text (codes "a"))
 unfolding expression_with
 default_a_reads = record { is = refl }
@@ -110,6 +110,14 @@ default_a_reads = record { is = refl }
 pub default_b_reads : Reads (expression_with B Num (codes "b")) [] (tree_of_text (codes "b"))
 unfolding expression_with
 default_b_reads = record { is = refl }
+
+pub default_c_reads : Reads (expression_with C Num (codes "c")) [] (tree_of_text (codes "c"))
+unfolding expression_with
+default_c_reads = record { is = refl }
+
+pub default_d_reads : Reads (expression_with D Num (codes "d")) [] (tree_of_text (codes "d"))
+unfolding expression_with
+default_d_reads = record { is = refl }
 
 module _ (op : Op) (earlier : List Members) (t : Members) where
   pub hop_reads : Reads (needed_number Hop 1 (2 ^ 40) t) (field_faults (value_faults Hop op earlier t) t (has Hop number)) (number_in Hop 0 t)
@@ -159,3 +167,11 @@ module _ (op : Op) (earlier : List Members) (t : Members) where
   pub b_reads : Reads (row_number_of B (codes "b") t) (field_faults (value_faults B op earlier t) t (may_have B text)) (tree_in B (codes "b") t)
   unfolding row_number_of optional_text
   b_reads = optional_text_reads B (value_faults B op earlier t) (λ words. expression_with B Num (unwrap_or words (codes "b"))) (λ words. tree_of_text (unwrap_or words (codes "b"))) default_b_reads (λ words. expression_reads B Num words) (get_member (key_of B) t)
+
+  pub c_reads : Reads (row_number_of C (codes "c") t) (field_faults (value_faults C op earlier t) t (may_have C text)) (tree_in C (codes "c") t)
+  unfolding row_number_of optional_text
+  c_reads = optional_text_reads C (value_faults C op earlier t) (λ words. expression_with C Num (unwrap_or words (codes "c"))) (λ words. tree_of_text (unwrap_or words (codes "c"))) default_c_reads (λ words. expression_reads C Num words) (get_member (key_of C) t)
+
+  pub d_reads : Reads (row_number_of D (codes "d") t) (field_faults (value_faults D op earlier t) t (may_have D text)) (tree_in D (codes "d") t)
+  unfolding row_number_of optional_text
+  d_reads = optional_text_reads D (value_faults D op earlier t) (λ words. expression_with D Num (unwrap_or words (codes "d"))) (λ words. tree_of_text (unwrap_or words (codes "d"))) default_d_reads (λ words. expression_reads D Num words) (get_member (key_of D) t)

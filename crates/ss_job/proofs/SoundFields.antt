@@ -136,3 +136,9 @@ default_a_kind = record { fitting = refl; root = refl }
 
 pub default_b_kind : HasKind (tree_of_text (codes "b")) Num
 default_b_kind = record { fitting = refl; root = refl }
+
+pub default_c_kind : HasKind (tree_of_text (codes "c")) Num
+default_c_kind = record { fitting = refl; root = refl }
+
+pub default_d_kind : HasKind (tree_of_text (codes "d")) Num
+default_d_kind = record { fitting = refl; root = refl }

@@ -21,14 +21,14 @@ use Rattle.ss_job.specs.declared.limits.Limits.{Limits}
 use Rattle.ss_job.specs.Sound.{IsFrom, IsPolicy, IsWindow, IsSpec, IsVertexText, HasReplicas, IsVertex, IsJob}
 use Rattle.ss_job.specs.Wrong.{fault_if, is_sink, number_of, has_input_count, field_faults, unknown_faults, value_faults}
 use Rattle.ss_job.specs.declared.fault.JobWhy.TheVariants.{NoSink}
-use Rattle.ss_job.specs.declared.field_name.FieldName.TheVariants.{Job, Vertex, MaxElements, CollectEvery, Inputs, Where, A, B, Size, Hop, Every, Replicas}
+use Rattle.ss_job.specs.declared.field_name.FieldName.TheVariants.{Job, Vertex, MaxElements, CollectEvery, Inputs, Where, A, B, C, D, Size, Hop, Every, Replicas}
 use Rattle.ss_job.specs.declared.op.Op.{Op}
 use Rattle.ss_job.specs.declared.op.Op.TheVariants as op
 use Rattle.ss_water.specs.declared.node.Node.{Node}
 use Rattle.ss_job.proofs.Absent.{get_member-absent}
 use Rattle.ss_job.proofs.DocumentReadings.{items_in, items_in-sound, tables_in-items, nothing_in, nothing_mapped, sinks-roles, read_document-job_of}
 use Rattle.ss_job.proofs.Graphs.{length-nodes_after, length-tables_of, sound_graph-IsGraph, sound_reading}
-use Rattle.ss_job.proofs.SoundFields.{wrong_at, range_sound, size_from, needed_number_sound, optional_number_sound, optional_text_sound, expression_sound, default_a_kind, default_b_kind}
+use Rattle.ss_job.proofs.SoundFields.{wrong_at, range_sound, size_from, needed_number_sound, optional_number_sound, optional_text_sound, expression_sound, default_a_kind, default_b_kind, default_c_kind, default_d_kind}
 use Rattle.ss_job.proofs.SoundInputs.{sound_vertex, sound_inputs}
 use Rattle.ss_job.proofs.SoundNames.{sound_name, sound_source_file, sound_sink_file, names_distinct, files_distinct}
 use Rattle.ss_job.proofs.VertexReadings.{wrong_in, none_wrong}
@@ -52,6 +52,8 @@ select_sound earlier t sound = (
   optional_text_sound (λ words. IfSome (option_map tree_of_text words) (λ e. HasKind e Truth)) Where (value_faults Where op.Select earlier t) (λ words none. expression_sound Where Truth words none) tt (get_member (key_of Where) t) (wrong_at op.Select earlier t (fields_of op.Select) 1 (may_have Where text) refl sound),
   optional_text_sound (λ words. HasKind (tree_of_text (unwrap_or words (codes "a"))) Num) A (value_faults A op.Select earlier t) (λ words none. expression_sound A Num words none) default_a_kind (get_member (key_of A) t) (wrong_at op.Select earlier t (fields_of op.Select) 2 (may_have A text) refl sound),
   optional_text_sound (λ words. HasKind (tree_of_text (unwrap_or words (codes "b"))) Num) B (value_faults B op.Select earlier t) (λ words none. expression_sound B Num words none) default_b_kind (get_member (key_of B) t) (wrong_at op.Select earlier t (fields_of op.Select) 3 (may_have B text) refl sound),
+  optional_text_sound (λ words. HasKind (tree_of_text (unwrap_or words (codes "c"))) Num) C (value_faults C op.Select earlier t) (λ words none. expression_sound C Num words none) default_c_kind (get_member (key_of C) t) (wrong_at op.Select earlier t (fields_of op.Select) 4 (may_have C text) refl sound),
+  optional_text_sound (λ words. HasKind (tree_of_text (unwrap_or words (codes "d"))) Num) D (value_faults D op.Select earlier t) (λ words none. expression_sound D Num words none) default_d_kind (get_member (key_of D) t) (wrong_at op.Select earlier t (fields_of op.Select) 5 (may_have D text) refl sound),
 )
 
 window_sound : (earlier : List Members) (t : Members) → wrong_in op.Window earlier t (fields_of op.Window) ≡ [] → IsSpec (window_in t)
@@ -61,7 +63,7 @@ window_sound earlier t sound =
 
 vertex_text_sound : (o : Op) (earlier : List Members) (t : Members) → wrong_in o earlier t (fields_of o) ≡ [] → IsVertexText (vertex_with o t)
 vertex_text_sound op.Source earlier t sound = sound_source_file earlier t sound
-vertex_text_sound op.Select earlier t sound = (select_sound earlier t sound, policy_sound op.Select earlier t sound 5 6 refl refl)
+vertex_text_sound op.Select earlier t sound = (select_sound earlier t sound, policy_sound op.Select earlier t sound 7 8 refl refl)
 vertex_text_sound op.Union earlier t sound = (tt, policy_sound op.Union earlier t sound 2 3 refl refl)
 vertex_text_sound op.Window earlier t sound = (window_sound earlier t sound, policy_sound op.Window earlier t sound 6 7 refl refl)
 vertex_text_sound op.Join earlier t sound = (tt, policy_sound op.Join earlier t sound 2 3 refl refl)
@@ -69,7 +71,7 @@ vertex_text_sound op.Sink earlier t sound = (sound_sink_file earlier t sound).le
 
 role_replicas : (o : Op) (earlier : List Members) (t : Members) → has_only (vertex_keys o) t ≡ true → wrong_in o earlier t (fields_of o) ≡ [] → IsFrom 1 4 (number_in Replicas 1 t)
 role_replicas op.Source earlier t only sound = replicas_sound op.Source earlier t sound 2 refl
-role_replicas op.Select earlier t only sound = replicas_sound op.Select earlier t sound 6 refl
+role_replicas op.Select earlier t only sound = replicas_sound op.Select earlier t sound 8 refl
 role_replicas op.Union earlier t only sound = replicas_sound op.Union earlier t sound 3 refl
 role_replicas op.Window earlier t only sound = replicas_sound op.Window earlier t sound 7 refl
 role_replicas op.Join earlier t only sound = replicas_sound op.Join earlier t sound 3 refl

@@ -22,12 +22,12 @@ use Rattle.ss_job.specs.Vertices.{EntryText, name_of, op_of, if_stream, input_of
 use Rattle.ss_job.specs.Wrong.{fault_if, name_faults, names_in, is_among, sink_files, input_faults, inputs_faults, is_sink_at, number_of, has_input_count, said_faults, field_faults, value_faults}
 use Rattle.ss_job.specs.declared.fault.JobWhy.{JobWhy}
 use Rattle.ss_job.specs.declared.fault.JobWhy.TheVariants.{BadName, RepeatedName, RepeatedFile, BadOp, UnknownField, LaterInput, SinkAsInput, WrongInputCount}
-use Rattle.ss_job.specs.declared.field_name.FieldName.TheVariants.{Name, Op as OpField, Inputs, File, A, B, Where, Size, Hop, Agg, Of, Replicas}
+use Rattle.ss_job.specs.declared.field_name.FieldName.TheVariants.{Name, Op as OpField, Inputs, File, A, B, C, D, Where, Size, Hop, Agg, Of, Replicas}
 use Rattle.ss_job.specs.declared.op.Op.{Op}
 use Rattle.ss_job.specs.declared.op.Op.TheVariants as op
 use Rattle.ss_job.proofs.Absent.{get_member-absent}
 use Rattle.ss_job.proofs.Earlier.{draft_in, draft_in-push, streams_within, written-files}
-use Rattle.ss_job.proofs.FieldReadings.{needed_text_reads, hop_reads, size_reads, every_reads, replicas_reads, late_reads, value_reads, replay_reads, agg_reads, test_reads, a_reads, b_reads}
+use Rattle.ss_job.proofs.FieldReadings.{needed_text_reads, hop_reads, size_reads, every_reads, replicas_reads, late_reads, value_reads, replay_reads, agg_reads, test_reads, a_reads, b_reads, c_reads, d_reads}
 use Rattle.ss_job.proofs.Readings.{Reads, then, done, refused, made}
 
 -- ---- name and op
@@ -184,14 +184,16 @@ two_groups {r} {v} o earlier t first second reads =
     record { is = reads.is ∙ ap (λ wrong. first_fault_or wrong v) (sym (flat_map-append (λ (field : Field). field_faults (value_faults field.name o earlier t) t field) first second)) }
 
 abbrev select_fields : List Field
-select_fields = may_have Where text ∷ may_have A text ∷ may_have B text ∷ []
+select_fields = may_have Where text ∷ may_have A text ∷ may_have B text ∷ may_have C text ∷ may_have D text ∷ []
 
 select_reads : (earlier : List Members) (t : Members) → Reads (select_of t) (wrong_in op.Select earlier t select_fields) (select_in t)
 unfolding select_of
 select_reads earlier t =
     then _ (test_reads op.Select earlier t) (λ _.
     then _ (a_reads op.Select earlier t) (λ _.
-    then _ (b_reads op.Select earlier t) (λ _. done (select_in t))))
+    then _ (b_reads op.Select earlier t) (λ _.
+    then _ (c_reads op.Select earlier t) (λ _.
+    then _ (d_reads op.Select earlier t) (λ _. done (select_in t))))))
 
 abbrev window_fields : List Field
 window_fields = has Hop number ∷ has Size number ∷ has Agg text ∷ may_have Of text ∷ []

@@ -4,7 +4,7 @@ use Rattle.std.specs.Prelude.{ℕ, Bool, true, false, ◌&&◌, List, [], ◌∷
 use Rattle.toml.specs.Data.{Data, Items, no_items, item, as_str, as_integer, array}
 use Rattle.ss_job.specs.declared.field_name.FieldName.{FieldName}
 use Rattle.ss_job.specs.declared.field_name.FieldName.TheVariants.{Job, Vertex, MaxElements, CollectEvery, Name, Op}
-use Rattle.ss_job.specs.declared.field_name.FieldName.TheVariants.{Inputs, File, Late, Where, A, B, Size, Hop, Agg}
+use Rattle.ss_job.specs.declared.field_name.FieldName.TheVariants.{Inputs, File, Late, Where, A, B, C, D, Size, Hop, Agg}
 use Rattle.ss_job.specs.declared.field_name.FieldName.TheVariants.{Of, Recover, Every, Replicas}
 use Rattle.ss_job.specs.declared.op.Op.{Op as Operator}
 use Rattle.ss_job.specs.declared.op.Op.TheVariants.{Source, Select, Union, Window, Join, Sink}
@@ -23,6 +23,8 @@ key_of Late = codes "late"
 key_of Where = codes "where"
 key_of A = codes "a"
 key_of B = codes "b"
+key_of C = codes "c"
+key_of D = codes "d"
 key_of Size = codes "size"
 key_of Hop = codes "hop"
 key_of Agg = codes "agg"
@@ -84,7 +86,9 @@ inner_fields = may_have Recover text ∷ may_have Every number ∷ may_have Repl
 -- the other fields of a vertex
 abbrev pub fields_of : Operator → List Field
 fields_of Source = has File text ∷ may_have Late text ∷ may_have Replicas number ∷ []
-fields_of Select = has Inputs texts ∷ may_have Where text ∷ may_have A text ∷ may_have B text ∷ inner_fields
+fields_of Select =
+    has Inputs texts ∷ may_have Where text ∷ may_have A text ∷ may_have B text ∷ may_have C text ∷ may_have D text
+    ∷ inner_fields
 fields_of Union = has Inputs texts ∷ inner_fields
 fields_of Window = has Inputs texts ∷ has Hop number ∷ has Size number ∷ has Agg text ∷ may_have Of text ∷ inner_fields
 fields_of Join = has Inputs texts ∷ inner_fields

@@ -15,7 +15,7 @@ use Rattle.ss_job.specs.Lookup.{text_in, number_in, texts_in, tables_of, word_in
 use Rattle.ss_job.specs.Lookup.{late_named, agg_named, value_named, replay_named}
 use Rattle.ss_job.specs.Wrong.{number_of}
 use Rattle.ss_job.specs.declared.field_name.FieldName.TheVariants.{Job, Vertex, MaxElements, CollectEvery, Name}
-use Rattle.ss_job.specs.declared.field_name.FieldName.TheVariants.{Inputs, File, Late, Where, A, B, Size, Hop, Agg}
+use Rattle.ss_job.specs.declared.field_name.FieldName.TheVariants.{Inputs, File, Late, Where, A, B, C, D, Size, Hop, Agg}
 use Rattle.ss_job.specs.declared.field_name.FieldName.TheVariants.{Of, Recover, Every, Replicas, Op}
 use Rattle.ss_job.specs.declared.op.Op.{Op as Operator}
 use Rattle.ss_job.specs.declared.op.Op.TheVariants as op
@@ -53,6 +53,7 @@ abbrev pub select_in : Members → Spec
 select_in table =
     spec.Select (option_map tree_of_text (text_in Where table))
     (tree_in A (codes "a") table) (tree_in B (codes "b") table)
+    (tree_in C (codes "c") table) (tree_in D (codes "d") table)
 
 abbrev pub window_in : Members → Spec
 window_in table =

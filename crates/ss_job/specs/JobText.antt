@@ -25,7 +25,7 @@ pub record JobText : Type 0 where
   pub collect_every : ℕ
 
 abbrev pub op_of_spec : Spec → Op
-op_of_spec (spec.Select test a b) = op.Select
+op_of_spec (spec.Select test a b c d) = op.Select
 op_of_spec spec.Union = op.Union
 op_of_spec (spec.Window size hop agg of) = op.Window
 op_of_spec spec.Join = op.Join

@@ -38,7 +38,9 @@ abbrev pub agg_named : List ℕ → Option Agg
 agg_named = meaning_in ((codes "sum", agg.Sum) ∷ (codes "min", agg.Least) ∷ (codes "max", agg.Greatest) ∷ [])
 
 abbrev pub value_named : List ℕ → Option Field
-value_named = meaning_in ((codes "a", field.A) ∷ (codes "b", field.B) ∷ [])
+value_named =
+    meaning_in
+    ((codes "a", field.A) ∷ (codes "b", field.B) ∷ (codes "c", field.C) ∷ (codes "d", field.D) ∷ [])
 
 -- whether a vertex is recovered by replay
 abbrev pub replay_named : List ℕ → Option Bool

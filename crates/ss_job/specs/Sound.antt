@@ -31,7 +31,8 @@ pub record IsWindow (size hop : ℕ) : Type 0 where
 
 -- what a select computes is of the right kinds, and a window has whole hops
 abbrev pub IsSpec : Spec → Type 0
-IsSpec (Select test a b) = IfSome test (λ e. HasKind e Truth) × HasKind a Num × HasKind b Num
+IsSpec (Select test a b c d) =
+    IfSome test (λ e. HasKind e Truth) × HasKind a Num × HasKind b Num × HasKind c Num × HasKind d Num
 IsSpec Union = Unit {0}
 IsSpec (Window size hop agg of) = IsWindow size hop
 IsSpec Join = Unit {0}

@@ -21,7 +21,7 @@ use Rattle.ss_job.specs.declared.fault.JobWhy.{JobWhy}
 use Rattle.ss_job.specs.declared.fault.JobWhy.TheVariants.{WrongKind, UnknownField, BadName, RepeatedName}
 use Rattle.ss_job.specs.declared.fault.JobWhy.TheVariants.{RepeatedFile, BadOp, LaterInput, SinkAsInput}
 use Rattle.ss_job.specs.declared.fault.JobWhy.TheVariants.{WrongInputCount}
-use Rattle.ss_job.specs.declared.field_name.FieldName.TheVariants.{Name, Op as OpField, Inputs, File, A, B, Hop}
+use Rattle.ss_job.specs.declared.field_name.FieldName.TheVariants.{Name, Op as OpField, Inputs, File, A, B, C, D, Hop}
 use Rattle.ss_job.specs.declared.field_name.FieldName.TheVariants.{Every, Replicas}
 use Rattle.ss_job.specs.declared.op.Op.{Op}
 use Rattle.ss_job.specs.declared.op.Op.TheVariants as op
@@ -126,7 +126,9 @@ select_of table = do
   test ← test_of table
   a ← row_number_of A (codes "a") table
   b ← row_number_of B (codes "b") table
-  Ok (spec.Select test a b)
+  c ← row_number_of C (codes "c") table
+  d ← row_number_of D (codes "d") table
+  Ok (spec.Select test a b c d)
 
 unfoldable pub window_of : Members → Result Spec JobWhy
 window_of table = do

@@ -21,7 +21,7 @@ use Rattle.ss_job.specs.declared.fault.JobWhy.TheVariants.{RepeatedName, Repeate
 use Rattle.ss_job.specs.declared.fault.JobWhy.TheVariants.{SinkAsInput, WrongInputCount, BadRange, BadExpr}
 use Rattle.ss_job.specs.declared.field_name.FieldName.{FieldName}
 use Rattle.ss_job.specs.declared.field_name.FieldName.TheVariants.{MaxElements, CollectEvery, Name, Op, File, Late}
-use Rattle.ss_job.specs.declared.field_name.FieldName.TheVariants.{Where, A, B, Size, Hop, Agg, Of, Recover, Every}
+use Rattle.ss_job.specs.declared.field_name.FieldName.TheVariants.{Where, A, B, C, D, Size, Hop, Agg, Of, Recover, Every}
 use Rattle.ss_job.specs.declared.field_name.FieldName.TheVariants.{Replicas}
 use Rattle.ss_job.specs.declared.op.Op.{Op as Operator}
 use Rattle.ss_job.specs.declared.op.Op.TheVariants.{Sink}
@@ -129,6 +129,8 @@ text_faults Late op earlier word = word_faults late_named Late word
 text_faults Where op earlier word = expression_faults Where Truth word
 text_faults A op earlier word = expression_faults A Num word
 text_faults B op earlier word = expression_faults B Num word
+text_faults C op earlier word = expression_faults C Num word
+text_faults D op earlier word = expression_faults D Num word
 text_faults Agg op earlier word = word_faults agg_named Agg word
 text_faults Of op earlier word = word_faults value_named Of word
 text_faults Recover op earlier word = word_faults replay_named Recover word

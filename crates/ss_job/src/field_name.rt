@@ -28,6 +28,10 @@ pub enum FieldName {
     A,
     /// The second value of a select's rows.
     B,
+    /// The third value of a select's rows.
+    C,
+    /// The fourth value of a select's rows.
+    D,
     /// How long the spans are from which a window takes its rows.
     Size,
     /// How far apart a window's ends are.
@@ -62,6 +66,8 @@ impl FieldName {
             FieldName::Where => "where",
             FieldName::A => "a",
             FieldName::B => "b",
+            FieldName::C => "c",
+            FieldName::D => "d",
             FieldName::Size => "size",
             FieldName::Hop => "hop",
             FieldName::Agg => "agg",

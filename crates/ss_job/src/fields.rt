@@ -164,6 +164,8 @@ fn value_named(word: &str) -> Option<Field>
     match word {
         "a" => Some(Field::A),
         "b" => Some(Field::B),
+        "c" => Some(Field::C),
+        "d" => Some(Field::D),
         _ => None,
     }
 }

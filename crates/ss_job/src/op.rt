@@ -46,7 +46,7 @@ impl Op {
         match self {
             Op::Source => &["name", "op", "file", "late", "replicas"],
             Op::Select => &[
-                "name", "op", "inputs", "where", "a", "b", "recover", "every", "replicas",
+                "name", "op", "inputs", "where", "a", "b", "c", "d", "recover", "every", "replicas",
             ],
             Op::Union | Op::Join => &["name", "op", "inputs", "recover", "every", "replicas"],
             Op::Window => &[

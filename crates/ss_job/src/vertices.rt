@@ -177,7 +177,9 @@ fn select_of(alloc: Global, table: &Table) -> Result<Spec, Refusal>
     let test = test_of(alloc, table)?;
     let a = row_number_of(alloc, table, FieldName::A, "a")?;
     let b = row_number_of(alloc, table, FieldName::B, "b")?;
-    Ok(Spec::Select { test, a, b })
+    let c = row_number_of(alloc, table, FieldName::C, "c")?;
+    let d = row_number_of(alloc, table, FieldName::D, "d")?;
+    Ok(Spec::Select { test, a, b, c, d })
 }
 
 #[tactic(auto, unfolding(crate::specs::Vertices::window_of))]

@@ -35,7 +35,7 @@ spec_stream node (sink file) list f s e = cc
 pub source_stream : (node : Node) (text : VertexText) (list : List Element) (f : ℕ → List Element) → op_of_vertex text ≡ op.Source
     → stream (vertex_at node text list) (map f (reads (vertex_at node text list))) ≡ list
 source_stream node (source file late) list f e = refl
-source_stream node (inner (spec.Select test a b) policy) list f e = cc
+source_stream node (inner (spec.Select test a b c d) policy) list f e = cc
 source_stream node (inner spec.Union policy) list f e = cc
 source_stream node (inner (spec.Window size hop agg of) policy) list f e = cc
 source_stream node (inner spec.Join policy) list f e = cc
@@ -57,7 +57,7 @@ spec_reads node (sink file) list s e = cc
 -- the spec of a job's operator can be computed
 
 pub computable : (s : Spec) → IsSpec s → IsComputable s
-computable (spec.Select test a b) h = h
+computable (spec.Select test a b c d) h = h
 computable spec.Union h = tt
 computable (spec.Window size hop agg of) h = record {
   least_hop = h.hop_of.least_of;

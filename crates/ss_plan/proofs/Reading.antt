@@ -110,7 +110,7 @@ text_no_spec (text ∷ texts) (suc v) e = text_no_spec texts v e
 
 some_input : (text : VertexText) (role : Role) (node : Node) (s : Spec) → spec_of_vertex text ≡ Some s → IsVertex role node text → 1 ≤ node.width
 some_input (source file late) role node s e h = cc
-some_input (inner (spec.Select test a b) policy) role node s e h = h.inputs.least_of
+some_input (inner (spec.Select test a b c d) policy) role node s e h = h.inputs.least_of
 some_input (inner spec.Union policy) role node s e h = let least = h.inputs.least_of in omega (arith, least)
 some_input (inner (spec.Window size hop agg of) policy) role node s e h = h.inputs.least_of
 some_input (inner spec.Join policy) role node s e h = let least = h.inputs.least_of in omega (arith, least)

@@ -28,7 +28,7 @@ is_source_op op.Sink = false
 
 same_source : (text : VertexText) → is_source text ≡ is_source_op (op_of_vertex text)
 same_source (source file late) = refl
-same_source (inner (spec.Select test a b) policy) = refl
+same_source (inner (spec.Select test a b c d) policy) = refl
 same_source (inner spec.Union policy) = refl
 same_source (inner (spec.Window size hop agg of) policy) = refl
 same_source (inner spec.Join policy) = refl

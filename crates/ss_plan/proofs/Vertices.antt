@@ -109,7 +109,7 @@ all_earlier nodes v node linked i d h =
     subst (λ n. n < v) (sym (input_at node i d inside)) (linked.earlier i inside)
 
 pub takes : (s : Spec) (role : Role) (node : Node) (policy : Policy) → IsVertex role node (inner s policy) → Takes (operator_of s) (length (inputs_read node))
-takes (spec.Select test a b) role node policy h = let least = h.inputs.least_of in let most = h.inputs.most_of in omega (arith, least, most, inputs_count node)
+takes (spec.Select test a b c d) role node policy h = let least = h.inputs.least_of in let most = h.inputs.most_of in omega (arith, least, most, inputs_count node)
 takes spec.Union role node policy h = let least = h.inputs.least_of in omega (arith, least, inputs_count node)
 takes (spec.Window size hop agg of) role node policy h =
     let least = h.inputs.least_of in

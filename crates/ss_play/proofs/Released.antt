@@ -21,7 +21,7 @@ use Rattle.ss_play.proofs.Least.{no_mark}
 -- ---- what a vertex is
 
 is_no_source : (s : Spec) → op_of_spec s ≡ op.Source → ⊥
-is_no_source (spec.Select test a b) e = absurd cc
+is_no_source (spec.Select test a b c d) e = absurd cc
 is_no_source spec.Union e = absurd cc
 is_no_source (spec.Window size hop agg of) e = absurd cc
 is_no_source spec.Join e = absurd cc

@@ -25,7 +25,7 @@ no_node = record { kind = kind.Sink; inputs = []; width = 0 }
 
 kind_by_text : (node : Node) (text : VertexText) (list : List Element) → kind_of (vertex_at node text list) ≡ named_kind (op_of_vertex text)
 kind_by_text node (source file late) list = refl
-kind_by_text node (inner (spec.Select test a b) policy) list = refl
+kind_by_text node (inner (spec.Select test a b c d) policy) list = refl
 kind_by_text node (inner spec.Union policy) list = refl
 kind_by_text node (inner (spec.Window size hop agg of) policy) list = refl
 kind_by_text node (inner spec.Join policy) list = refl

@@ -56,7 +56,9 @@ job_of_three = record {
 
 -- a select that gives each row on as it is
 abbrev pub gives_all : operator.Kind
-gives_all = operator.Select (record { test = λ row. true; a = λ row. row.a; b = λ row. row.b })
+gives_all =
+    operator.Select
+    (record { test = λ row. true; a = λ row. row.a; b = λ row. row.b; c = λ row. row.c; d = λ row. row.d })
 
 -- the job of three vertices is that of a source of three rows, such a select with two replicas, and a sink
 abbrev pub JobOfThreeIsMeant : Type 0

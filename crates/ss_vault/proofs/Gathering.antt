@@ -94,7 +94,7 @@ role_at plan v = get_or plan.job.roles v no_role
 
 kind_by_text : (node : Node) (text : VertexText) (list : List Element) → kind_of (vertex_at node text list) ≡ named_kind (op_of_vertex text)
 kind_by_text node (source file late) list = refl
-kind_by_text node (inner (spec.Select test a b) policy) list = refl
+kind_by_text node (inner (spec.Select test a b c d) policy) list = refl
 kind_by_text node (inner spec.Union policy) list = refl
 kind_by_text node (inner (spec.Window size hop agg of) policy) list = refl
 kind_by_text node (inner spec.Join policy) list = refl

@@ -8,7 +8,7 @@ use Rattle.std.proofs.lemmas.List.{ext_get_or, get_or-map, get_or_past, length-m
 use Rattle.std.proofs.lemmas.List.Elements.{All-nil}
 use Rattle.std.proofs.lemmas.Option.{slice_get-get_or}
 use Rattle.ss_codec.specs.Frame.{frame_bytes}
-use Rattle.ss_codec.specs.Record.{IsKept}
+use Rattle.ss_elem.specs.Rows.{IsKept}
 use Rattle.ss_codec.specs.declared.frame.Frame.{Frame}
 use Rattle.ss_elem.specs.Line.{text_of}
 use Rattle.ss_expr.specs.declared.stream_operator.Spec.{Spec}

@@ -7,7 +7,7 @@ use Rattle.std.proofs.lemmas.Bool.{cases_lt, eqb-true}
 use Rattle.std.proofs.lemmas.Option.{slice_get_within, get_or_from_slice_get}
 use Rattle.std.specs.List.{slice_get, AllByRecursion}
 use Rattle.std.specs.Option.{option_map_or}
-use Rattle.ss_codec.specs.Record.{IsKept}
+use Rattle.ss_elem.specs.Rows.{IsKept}
 use Rattle.ss_elem.specs.Validity.{Whole, next_bound}
 use Rattle.ss_elem.specs.declared.element.Element.{Element}
 use Rattle.ss_expr.specs.Operators.{operator_of}

@@ -51,7 +51,7 @@ spec_at (Some (inner t policy)) s e = let same : t ≡ s = cc in (policy, ap (λ
 spec_at (Some (sink file)) s e = cc
 
 computable : (s : Spec) → IsSpec s → IsComputable s
-computable (spec.Select test a b) h = h
+computable (spec.Select test a b c d) h = h
 computable spec.Union h = tt
 computable (spec.Window size hop agg of) h = record {
   least_hop = h.hop_of.least_of;
@@ -63,7 +63,7 @@ computable (spec.Window size hop agg of) h = record {
 computable spec.Join h = tt
 
 some_input : (s : Spec) (role : Role) (node : Node) (policy : Policy) → IsVertex role node (inner s policy) → 1 ≤ node.width
-some_input (spec.Select test a b) role node policy h = h.inputs.least_of
+some_input (spec.Select test a b c d) role node policy h = h.inputs.least_of
 some_input spec.Union role node policy h = let least = h.inputs.least_of in omega (arith, least)
 some_input (spec.Window size hop agg of) role node policy h = h.inputs.least_of
 some_input spec.Join role node policy h = let least = h.inputs.least_of in omega (arith, least)

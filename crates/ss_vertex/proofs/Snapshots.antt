@@ -7,7 +7,7 @@ use Rattle.std.proofs.lemmas.List.Sums.{sum_by-le}
 use Rattle.std.specs.List.{slice_get, sum}
 use Rattle.std.specs.Option.{option_map_or}
 use Rattle.ss_codec.specs.Frame.{IsFrame}
-use Rattle.ss_codec.specs.Record.{IsKept}
+use Rattle.ss_elem.specs.Rows.{IsKept}
 use Rattle.ss_codec.specs.declared.frame.Frame.{Frame}
 use Rattle.ss_elem.specs.Validity.{top}
 use Rattle.ss_elem.specs.declared.element.Element.{Element}

@@ -1,7 +1,7 @@
 -- An instance that stands goes on to stand.
 use Rattle.std.proofs.Common.{◌≡◌, ℕ, zero, suc, ◌+◌, ◌<◌, ◌≤◌, true, false, List, [], ◌∷◌, ◌++◌, length, take, drop, map, All, Option, Some, None, option_map, IsSome, IsSomeAnd, IfSome, refl, sym, ap, ◌∙◌, subst, arith, append_assoc, append-nil}
 use Rattle.std.specs.Option.{option_map_or}
-use Rattle.ss_codec.specs.Record.{IsKept}
+use Rattle.ss_elem.specs.Rows.{IsKept}
 use Rattle.ss_elem.specs.declared.element.Element.{Element}
 use Rattle.ss_expr.specs.Operators.{operator_of}
 use Rattle.ss_expr.specs.declared.stream_operator.Spec.{Spec}

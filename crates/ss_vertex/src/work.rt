@@ -1,6 +1,6 @@
 ghost use Rattle.std.specs.Prelude.{◌≡◌, ◌+◌, ◌^◌, ◌<◌, ℕ, List, [], ◌∷◌, Some, None, IsSome, IsNone};
 ghost use Rattle.std.specs.Prelude.{IfOk, IfErr, OnOk, OnErr, nat_lt, if◌then◌else◌};
-ghost use Rattle.ss_codec.specs.Record.{IsKept};
+ghost use Rattle.ss_elem.specs.Rows.{IsKept};
 ghost use Rattle.ss_elem.specs.declared.element.Element.{Element};
 ghost use Rattle.ss_frames.specs.Frames.{frame_of};
 ghost use Rattle.ss_frames.specs.Within.{AreKept, IsWithin};
@@ -198,7 +198,7 @@ pub(crate) fn check_kept(x: &Element)
     match x {
         Element::Row(row) => {
             let _key = row.key.bytes();
-            let _values = (row.a, row.b);
+            let _values = (row.a, row.b, row.c, row.d);
         }
         Element::Cti(_) => (),
         Element::End => (),

@@ -1,5 +1,5 @@
 use Rattle.std.proofs.Common.{refl}
-use Rattle.ss_image.specs.Images.{entry_bytes, row_bytes, window_image, join_image}
+use Rattle.ss_image.specs.Images.{entry_bytes, narrow_bytes, window_image, join_image}
 use Rattle.ss_image.specs.Numbers.{number_bytes, key_bytes}
 use Rattle.ss_state.specs.NumbersOfMeaning.{job_numbers}
 use Rattle.ss_frames.specs.Frames.{frame_after, frame_of}
@@ -15,5 +15,5 @@ unfolding plan_numbers job_numbers
 returns-clause-numbers c = refl
 
 pub returns-clause-join : goal.returns-clause-join
-unfolding frame_of frame_after join_image row_bytes number_bytes key_bytes
+unfolding frame_of frame_after join_image narrow_bytes number_bytes key_bytes
 returns-clause-join c = refl

@@ -16,7 +16,7 @@ returns-clause-codes c =
     })
     (record {
       window = c.images_have_lengths.ensures.window;
-      join = c.images_have_lengths.ensures.join;
+      join = c.images_have_lengths.ensures.short;
       frame = c.frames_have_lengths.ensures;
     })
     c.entries_are_few.ensures
