@@ -6,12 +6,8 @@
 #[cfg(test)]
 mod elem;
 #[cfg(test)]
-mod events;
-#[cfg(test)]
 mod expr;
 #[cfg(test)]
 mod fail;
-#[cfg(test)]
-mod scripts;
 #[cfg(test)]
 mod water;
