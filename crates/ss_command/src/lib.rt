@@ -14,8 +14,6 @@ mod sinks;
 mod sources;
 mod summary;
 mod telling;
-#[cfg(test)]
-mod tests;
 mod work;
 mod write;
 

@@ -7,9 +7,3 @@
 mod job;
 #[cfg(test)]
 mod report;
-#[cfg(test)]
-mod state_rows;
-#[cfg(test)]
-mod trace;
-#[cfg(test)]
-mod words;

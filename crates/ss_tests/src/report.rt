@@ -1,9 +1,9 @@
 ghost use Rattle.std.specs.Prelude.{◌<◌, ◌≤◌, length};
 
 use ss_events::{EventFault, EventWhy};
-use ss_fail::{Name, Role};
+use ss_fail::{Act, Name, Outcome, Role};
 use ss_job::{FieldName, JobFault, JobWhy, Op};
-use ss_report::{Fault, StateRow, fault_line, fixed_line, state_line, status_of};
+use ss_report::{Fault, StateRow, fault_line, fixed_line, state_line, status_of, trace_line};
 use ss_water::Kind;
 use std::test::Fail;
 
@@ -94,5 +94,24 @@ fn each_row_has_its_line(rt: HostRuntime) -> Result<(), Fail> {
     state_line(&StateRow::Done, &roles, &mut out)?;
     let text = b"1 w join in in\nok 3\nsink out 3\ndone\n";
     assert!(rt; out.as_slice() == text.as_slice());
+    Ok(())
+}
+
+/// What comes of an act where no schedule shows it: a tail that stands apart from what is stored, and a second input.
+#[test]
+fn each_act_has_its_line(rt: HostRuntime) -> Result<(), Fail> {
+    let roles = [role(b"s", Kind::Source)];
+    let cases = [
+        (Outcome::Apart { from: 5, dur: 4 }, "lose s: apart 5 4\n"),
+        (Outcome::Gone { input: 1, n: 7 }, "lose s: gone 1 7\n"),
+        (Outcome::Wait { input: 1, n: 7 }, "lose s: wait 1 7\n"),
+        (Outcome::Pending { left: 2 }, "lose s: pending 2\n"),
+    ];
+    let mut out = Vec::new(rt.alloc());
+    for (outcome, line) in cases {
+        out.clear();
+        trace_line(&Act::Lose { v: 0 }, &outcome, &roles, &mut out)?;
+        assert!(rt; out.as_slice() == line.as_bytes(), "{line}");
+    }
     Ok(())
 }

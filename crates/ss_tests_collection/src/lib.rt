@@ -5,8 +5,6 @@
 #[cfg(test)]
 mod between;
 #[cfg(test)]
-mod collections;
-#[cfg(test)]
 mod failing;
 #[cfg(test)]
 mod long;

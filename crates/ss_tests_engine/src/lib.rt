@@ -3,9 +3,3 @@
 
 #[cfg(test)]
 mod faults;
-#[cfg(test)]
-mod lost;
-#[cfg(test)]
-mod races;
-#[cfg(test)]
-mod rows;

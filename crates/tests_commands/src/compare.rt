@@ -12,12 +12,7 @@ pub(crate) fn are_same(wanted: &[u8], came: &[u8]) -> bool
 }
 
 /// Compares the bytes of a name with those that are wanted.
-pub(crate) fn compare(
-    alloc: Global,
-    name: &str,
-    wanted: &[u8],
-    came: &[u8],
-) -> Result<(), Stop> {
+pub(crate) fn compare(alloc: Global, name: &str, wanted: &[u8], came: &[u8]) -> Result<(), Stop> {
     if are_same(wanted, came) {
         return Ok(());
     }
@@ -28,12 +23,7 @@ pub(crate) fn compare(
 }
 
 /// The first line that differs, what was wanted there and what came.
-fn difference(
-    alloc: Global,
-    name: &str,
-    wanted: &str,
-    came: &str,
-) -> Result<String, AllocError> {
+fn difference(alloc: Global, name: &str, wanted: &str, came: &str) -> Result<String, AllocError> {
     let mut others = came.lines();
     let mut number = 1_u64;
     for line in wanted.lines() {
@@ -58,7 +48,9 @@ fn both(
     wanted: &str,
     came: &str,
 ) -> Result<String, AllocError> {
-    format!(in alloc; "{name}: line {number}: wanted: {wanted}\n{name}: line {number}: came:   {came}")
+    format!(in alloc;
+        "{name}: line {number}: wanted: {wanted}\n{name}: line {number}: came:   {came}"
+    )
 }
 
 /// Compares two numbers.
@@ -66,11 +58,11 @@ pub(crate) fn compare_numbers(
     alloc: Global,
     what: &str,
     wanted: u64,
-    came: u64,
+    found: u64,
 ) -> Result<(), Stop> {
-    if wanted == came {
+    if wanted == found {
         return Ok(());
     }
-    let told = format!(in alloc; "{what}: wanted: {wanted}\n{what}: came:   {came}")?;
+    let told = format!(in alloc; "{what}: wanted: {wanted}\n{what}: came:   {found}")?;
     Err(Stop::Differs(told))
 }

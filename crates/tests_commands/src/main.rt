@@ -1,23 +1,25 @@
-//! The tests of commands: walks over files of cases, and tells how many of each file pass.
+//! The tests of commands: walks over the worked rows and over files of cases, and tells how many of each pass.
 #![tactic(auto)]
 
 mod compare;
 mod devices;
 mod lists;
+mod rows;
 mod stop;
 mod tally;
-//#[cfg(test)]
-//mod tests;
+#[cfg(test)]
+mod tests;
 mod walk;
 mod wanted;
 
+use crate::rows::ROWS;
 use crate::tally::tell_file;
 use ss_outside::{FileInputs, FileOutputs, Inputs, Outputs};
 use std::alloc::Global;
 use std::process::ExitCode;
 use std::{env, io};
 
-/// Walks over the files that its words name, which lie where it runs.
+/// Walks over the worked rows, and over the files that its words name, which lie where it runs.
 fn main(rt: HostRuntime) -> ExitCode {
     let mut inputs = FileInputs::new(&rt);
     let mut outputs = FileOutputs::new(&rt);
@@ -27,19 +29,27 @@ fn main(rt: HostRuntime) -> ExitCode {
     }
 }
 
-/// Tells of each file.
+/// Tells of the worked rows, and then of each file.
 fn tell_files(
     rt: &HostRuntime,
     inputs: &mut impl Inputs,
     outputs: &mut impl Outputs,
 ) -> io::Result<()> {
+    let report = tell_file(rt.alloc(), "rows", ROWS.as_bytes())?;
+    put(outputs, report.as_str())?;
     for name in env::args(rt)?.skip(1) {
         let report = report_of(rt.alloc(), inputs, name.as_str())?;
-        if outputs.put("-", report.as_bytes()).is_err() {
-            return Err(io::ErrorKind::Other.into());
-        }
+        put(outputs, report.as_str())?;
     }
     Ok(())
+}
+
+/// Puts a text to standard output.
+fn put(outputs: &mut impl Outputs, text: &str) -> io::Result<()> {
+    match outputs.put("-", text.as_bytes()) {
+        Ok(()) => Ok(()),
+        Err(_) => Err(io::ErrorKind::Other.into()),
+    }
 }
 
 /// What is told of a file.

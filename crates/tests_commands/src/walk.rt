@@ -17,25 +17,37 @@ const NAMES: [&str; 16] = [
     "two.csv", "l.csv", "r.csv", "job.toml", "s.txt", "t.txt",
 ];
 
-/// Does each command of a case, each over devices of its own, and compares what it leaves.
+/// Does each command of a case, each over devices of its own, and compares what it leaves. A case has a command.
 pub(crate) fn check(alloc: Global, case: &Case) -> Result<(), Stop> {
     check_words(case)?;
     let texts = texts_of(alloc, case)?;
+    let mut commands = 0_u64;
     for field in case.fields.iter() {
         if field.word.as_str() == "words" {
+            commands = commands.saturating_add(1);
             let left = left_by(alloc, case, words_of(alloc, field)?.as_slice())?;
             check_left(alloc, case, texts.as_slice(), &left)?;
         }
     }
-    Ok(())
+    compare_numbers(alloc, "cases without a command", 0, (commands == 0) as u64)
 }
 
 /// Each field of a case has a word that a case may have, and one has the words of a command.
 fn check_words(case: &Case) -> Result<(), Stop> {
     for field in case.fields.iter() {
         match field.word.as_str() {
-            "words" | "file" | "acts" | "fail" | "damage" | "put" | "status" | "text" | "begins"
-            | "has" | "alike" | "released" => (),
+            "words"
+            | "file"
+            | "acts"
+            | "fail"
+            | "damage"
+            | "put"
+            | "status"
+            | "text"
+            | "begins"
+            | "has"
+            | "alike"
+            | "released" => (),
             _ => return Err(unknown(field)),
         }
     }
@@ -112,7 +124,9 @@ fn check_name(
         None if is_among(loose, name) || !outputs.was_put_to(name) => Ok(()),
         None => {
             compare(alloc, name, &[], outputs.bytes(name))?;
-            let told = format!(in alloc; "{name}: wanted: no put\n{name}: came:   a put of nothing")?;
+            let told = format!(in alloc;
+                "{name}: wanted: no put\n{name}: came:   a put of nothing"
+            )?;
             Err(Stop::Differs(told))
         }
     }

@@ -1,7 +1,6 @@
 //! Runs that go on after failures: the output is always that of `plain`.
 
-use super::{done, inputs_of, no_outputs};
-use crate::outside::Done;
+use ss_command::{Done, Outside, perform};
 use ss_outside::{MemDepot, MemInputs, MemOutputs};
 use std::alloc::Global;
 use std::process::Abort;
@@ -73,8 +72,20 @@ fn left_by(
         ("two.csv", RIGHT),
         ("f.txt", script.as_bytes()),
     ];
-    let inputs = inputs_of(alloc, &files, &[])?;
-    done(alloc, words, inputs, no_outputs(alloc))
+    let mut inputs = MemInputs::new(alloc);
+    for (name, bytes) in files {
+        inputs.add(name, bytes)?;
+    }
+    let outside = Outside {
+        inputs,
+        outputs: MemOutputs::new(alloc),
+        depot: MemDepot::new(alloc),
+    };
+    let mut owned = Vec::new(alloc);
+    for word in words {
+        owned.push(String::from_str(alloc, word)?)?;
+    }
+    Ok(perform(alloc, owned.as_slice(), outside))
 }
 
 /// Runs the job with these failures, and compares what its sinks have put with what `plain` has.
