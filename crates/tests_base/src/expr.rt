@@ -10,7 +10,11 @@ fn selects_compute_both_values_from_the_old_ones(rt: HostRuntime) -> Result<(), 
     let copy = a.copied(rt.alloc())?;
     check_kind(&copy, ValueKind::Num)?;
     check_kind(&b, ValueKind::Num)?;
-    let rows = read_events(rt.alloc(), b"event,5,9,k,3,4\nevent,5,9,k,4,3\n", Late::Refuse)?;
+    let rows = read_events(
+        rt.alloc(),
+        b"event,5,9,k,3,4\nevent,5,9,k,4,3\n",
+        Late::Refuse,
+    )?;
     assert_eq!(rt; rows.len(), 3);
     match rows[0] {
         Element::Row(row) => {

@@ -43,7 +43,10 @@ fn take_again(
 /// order of the lesser bound, and of two equal ones the left input's goes first.
 #[test]
 fn a_step_that_is_refused_memory_changes_nothing(rt: HostRuntime) -> Result<(), Fail> {
-    let (lefts, rights) = (elements_of(rt.alloc(), LEFT)?, elements_of(rt.alloc(), RIGHT)?);
+    let (lefts, rights) = (
+        elements_of(rt.alloc(), LEFT)?,
+        elements_of(rt.alloc(), RIGHT)?,
+    );
     let mut join = Join::new(rt.alloc());
     let mut out = Out::new(rt.alloc());
     let (mut left, mut right) = (Bound::ZERO, Bound::ZERO);

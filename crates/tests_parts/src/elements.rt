@@ -1,4 +1,6 @@
 //! Keys, elements and their lines.
+ghost use Rattle.std.specs.Prelude.{◌≡◌, IfOk};
+
 use crate::lines::lines_of;
 use crate::told::{number, shown, value};
 use ss_elem::{Bound, Element, Event, Key, valid_next};
@@ -55,20 +57,24 @@ pub(crate) fn element_of(text: &str) -> Result<Element, Fail> {
         Some("event") => {
             let (start, end) = (number(cells.next())?, number(cells.next())?);
             let key = cells.next().ok_or("a key is missing")?;
-            event(start, end, key, value(cells.next())?, value(cells.next())?)
+            let (a, b) = (value(cells.next())?, value(cells.next())?);
+            Ok(Element::Row(event(start, end, key, a, b)?))
         }
         _ => Err(Fail::new(format_args!("no element: {text}"))),
     }
 }
 
 /// A row with two values.
-pub(crate) fn event(start: u64, end: u64, key: &str, a: i64, b: i64) -> Result<Element, Fail> {
+pub(crate) fn event(start: u64, end: u64, key: &str, a: i64, b: i64) -> Result<Event, Fail>
+    ensures start { IfOk result (λ row. row.start ≡ start) }
+    ensures end { IfOk result (λ row. row.end ≡ end) }
+{
     let key = Key::of(key.as_bytes())?;
-    Ok(Element::Row(Event {
+    Ok(Event {
         start,
         end,
         key,
         a,
         b,
-    }))
+    })
 }

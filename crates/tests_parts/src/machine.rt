@@ -44,7 +44,7 @@ fn walk_with_cut<M: Machine>(
     inputs: &Inputs,
     cut: usize,
 ) -> Result<Walk, Fail> {
-    let mut merger = start(inputs.width as usize)?;
+    let mut merger = start(inputs.width)?;
     let mut machine = fresh.again(alloc, &merger)?;
     let mut given = Out::new(alloc);
     let mut held = String::new(alloc);

@@ -19,7 +19,7 @@ pub(crate) struct Arrived {
 /// How many inputs there are, and their elements as they arrive.
 #[derive(Drop)]
 pub(crate) struct Inputs {
-    pub width: u32,
+    pub width: usize,
     pub all: Vec<Arrived>,
 }
 
@@ -39,7 +39,7 @@ impl Inputs {
             all.push(next_of(&lists, &mut merger)?)?;
         }
         Ok(Inputs {
-            width: files.len() as u32,
+            width: files.len(),
             all,
         })
     }

@@ -25,12 +25,7 @@ fn of_seventy(alloc: Global, job: &str, trouble: Trouble) -> Result<Store, Fail>
 }
 
 /// Makes these calls, after which the depot has counted so many appends to the source, and so many faults.
-fn calls(
-    alloc: Global,
-    trouble: Trouble,
-    lines: &str,
-    counted: (u64, u64),
-) -> Result<(), Fail> {
+fn calls(alloc: Global, trouble: Trouble, lines: &str, counted: (u64, u64)) -> Result<(), Fail> {
     let mut store = of_seventy(alloc, COPY.text, trouble)?;
     call_all(alloc, &mut store, lines)?;
     let (depot, _) = store.into_parts();
@@ -74,7 +69,12 @@ row 0: [0, 40, 0, 0]
 counts: (40, 2)
 halted: Some(Store { count: 1 })
 ";
-    calls(rt.alloc(), Trouble::Call(DepotCall::Append, 41), lines, (40, 1))?;
+    calls(
+        rt.alloc(),
+        Trouble::Call(DepotCall::Append, 41),
+        lines,
+        (40, 1),
+    )?;
     // A fault at the first of a batch makes no entry.
     let lines = "
 flush 0 0 64: Store { count: 1 }
@@ -82,7 +82,12 @@ row 0: [0, 0, 0, 0]
 counts: (0, 0)
 halted: Some(Store { count: 1 })
 ";
-    calls(rt.alloc(), Trouble::Call(DepotCall::Append, 1), lines, (0, 1))
+    calls(
+        rt.alloc(),
+        Trouble::Call(DepotCall::Append, 1),
+        lines,
+        (0, 1),
+    )
 }
 
 /// One element at a time: the first 64 are stored, and the others not.

@@ -123,7 +123,8 @@ const COLLECTED: &str =
 #[test]
 fn a_pass_stops_at_each_cut_and_drop(rt: HostRuntime) -> Result<(), Fail> {
     let calls = "pass: Store { count: 1 }";
-    let entered = "row 0: [0, 4, 0, 0]\nrow 1: [0, 3, 0, 0]\nsnaps: 0/0 2/2 3/3 low 3\ncounts: (7, 7)";
+    let entered =
+        "row 0: [0, 4, 0, 0]\nrow 1: [0, 3, 0, 0]\nsnaps: 0/0 2/2 3/3 low 3\ncounts: (7, 7)";
     let trimmed = "row 0: [0, 4, 0, 0]\nrow 1: [2, 3, 0, 0]\nsnaps: 3/3 low 3\ncounts: (7, 7)";
     stops(&rt, rt.alloc(), (DepotCall::Cut, 1), calls, entered)?;
     stops(&rt, rt.alloc(), (DepotCall::DropBelow, 1), calls, COLLECTED)?;

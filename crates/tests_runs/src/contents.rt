@@ -47,11 +47,20 @@ fn behind(alloc: Global, job: SmallJob<'_>) -> Result<Store, Fail> {
 
 #[test]
 fn records_and_snapshots_are_held_under_their_numbers(rt: HostRuntime) -> Result<(), Fail> {
-    for (job, v, n, text) in [(COPY, 0, 0, ROW), (COPY, 0, 1, CTI), (COPY, 0, 2, END), (WINDOW, 1, 1, GIVEN)] {
+    for (job, v, n, text) in [
+        (COPY, 0, 0, ROW),
+        (COPY, 0, 1, CTI),
+        (COPY, 0, 2, END),
+        (WINDOW, 1, 1, GIVEN),
+    ] {
         let bytes = behind(rt.alloc(), job)?.into_record(v, n)?;
         assert!(rt; bytes == hex::decode(rt.alloc(), text)?, "{v} {n}");
     }
-    for (job, n, text) in [(SELECT, 0, FIRST), (SELECT, 2, SECOND), (WINDOW, 3, WAITING)] {
+    for (job, n, text) in [
+        (SELECT, 0, FIRST),
+        (SELECT, 2, SECOND),
+        (WINDOW, 3, WAITING),
+    ] {
         let bytes = behind(rt.alloc(), job)?.into_frame(n)?;
         assert!(rt; bytes == hex::decode(rt.alloc(), text)?, "{n}");
     }

@@ -1,8 +1,6 @@
 //! Runs in which one call of a device goes wrong: what was done before stays, the vault is halted, and no device is
 //! asked again.
-use fixtures::{
-    COPY, SELECT, SmallJob, Store, Trouble, WINDOW, answer_to, parts_of, started,
-};
+use fixtures::{COPY, SELECT, SmallJob, Store, Trouble, WINDOW, answer_to, parts_of, started};
 use ss_outside::{Depot, DepotCall, Outputs};
 use ss_vault::VaultFault;
 use std::alloc::Global;
@@ -18,7 +16,7 @@ struct Place<'a> {
     /// How many of its kind were made before.
     before: u64,
     /// How many lines were put before.
-    lines: usize,
+    lines: u64,
     /// The record or the snapshot that it is of.
     v: u32,
     n: u64,
@@ -42,15 +40,25 @@ fn places_of<'a>(alloc: Global, run: &'a str) -> Result<Vec<Place<'a>>, Fail> {
 fn place_of<'a>(places: &[Place<'a>], step: usize, call: &'a str) -> Result<Place<'a>, Fail> {
     let mut words = call.split(" ");
     let kind = words.next().unwrap_or("");
-    let count = |of: &str| places.iter().filter(|place| place.kind == of).count();
     Ok(Place {
         kind,
         step,
-        before: count(kind) as u64,
-        lines: count("put"),
+        before: count_of(places, kind),
+        lines: count_of(places, "put"),
         v: words.next().unwrap_or("0").parse::<u32>()?,
         n: words.next().unwrap_or("0").parse::<u64>()?,
     })
+}
+
+/// How many of these calls are of a kind.
+fn count_of(places: &[Place<'_>], kind: &str) -> u64 {
+    let mut count = 0_u64;
+    for place in places {
+        if place.kind == kind {
+            count = count.saturating_add(1);
+        }
+    }
+    count
 }
 
 /// Where a run stops: in which step, with which fault, and how many bytes the sink's file has then.
@@ -114,15 +122,22 @@ fn stops(
     assert!(rt; since == all, "{trouble:?}");
     let lines = job.lines.as_bytes();
     assert!(rt; stop.bytes <= lines.len());
-    assert!(rt; outputs.bytes(job.output) == &lines[..stop.bytes], "{trouble:?}");
+    assert!(rt;
+        outputs.bytes(job.output) == &lines[..stop.bytes],
+        "{trouble:?}"
+    );
     Ok(stored)
 }
 
 /// The length of the first lines of a job.
-fn length_of(job: SmallJob<'_>, lines: usize) -> usize {
+fn length_of(job: SmallJob<'_>, lines: u64) -> usize {
     let mut length = 0_usize;
-    for line in job.lines.lines().take(lines) {
-        length = length.saturating_add(line.len()).saturating_add(1);
+    let mut count = 0_u64;
+    for line in job.lines.lines() {
+        if count < lines {
+            length = length.saturating_add(line.len()).saturating_add(1);
+        }
+        count = count.saturating_add(1);
     }
     length
 }

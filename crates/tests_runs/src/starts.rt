@@ -1,6 +1,6 @@
 //! Starts of which the depot fails.
-use ss_outside::{Depot, DepotCall};
 use fixtures::{COPY, SELECT, SmallJob, Store, Trouble, WINDOW, made};
+use ss_outside::{Depot, DepotCall};
 use ss_vault::VaultFault;
 use std::alloc::Global;
 use std::process::Abort;

@@ -5,9 +5,9 @@ ghost use Rattle.ss_vertex.specs.Standing.{InstStands};
 
 use crate::jobs::{WINDOW, WINDOW_FILE, WINDOW_LINES};
 use crate::run::{Run, is_at};
+use fixtures::made;
 use ss_codec::Frame;
 use ss_plan::Plan;
-use fixtures::made;
 use ss_vertex::SnapFault;
 use std::alloc::Global;
 use std::process::Abort;

@@ -34,14 +34,25 @@ const LINES_OF_EIGHT: &str = "\
     cti,5\nevent,6,7,b,2,0\ncti,9\nend\n";
 
 /// The stream of a vertex alone.
-fn stream_of(rt: &impl Abort, alloc: Global, plan: &Plan, v: u32) -> Result<Vec<Element>, PlanFault> {
+fn stream_of(
+    rt: &impl Abort,
+    alloc: Global,
+    plan: &Plan,
+    v: u32,
+) -> Result<Vec<Element>, PlanFault> {
     let count = plan.job().graph().count();
     assert!(rt; v < count);
     plain(alloc, plan, v)
 }
 
 /// Computes all streams, and the last two once more each alone: they have these lines.
-fn check(rt: &impl Abort, alloc: Global, job: &str, files: &[&str], lines: &str) -> Result<(), Fail> {
+fn check(
+    rt: &impl Abort,
+    alloc: Global,
+    job: &str,
+    files: &[&str],
+    lines: &str,
+) -> Result<(), Fail> {
     let plan = made(alloc, job, files)?;
     let all = plain_all(alloc, &plan)?;
     assert!(rt; 2 <= all.len() && all.len() <= 32, "{job}");
@@ -62,7 +73,10 @@ fn streams_are_computed_whole(rt: HostRuntime) -> Result<(), Fail> {
     let (left, right) = ("event,1,2,p,1,0\ncti,5\n", "event,1,2,q,2,0\ncti,5\n");
     let lines = "event,1,2,p,1,0\nevent,1,2,q,2,0\ncti,5\nend\n";
     check(&rt, alloc, UNION, &[left, right], lines)?;
-    let (left, right) = ("event,1,10,k,1,0\ncti,20\n", "event,5,7,k,2,0\ncti,6\nevent,9,12,k,3,0\n");
+    let (left, right) = (
+        "event,1,10,k,1,0\ncti,20\n",
+        "event,5,7,k,2,0\ncti,6\nevent,9,12,k,3,0\n",
+    );
     let lines = "event,5,7,k,1,2\ncti,6\nevent,9,10,k,1,3\ncti,20\nend\n";
     check(&rt, alloc, JOIN, &[left, right], lines)?;
     let rows = "event,1,2,k,5,1\nevent,1,2,q,5,1\n";

@@ -5,10 +5,10 @@ ghost use Rattle.ss_vertex.specs.Calls.{IsWanted};
 ghost use Rattle.ss_vertex.specs.Standing.{InstStands};
 
 use crate::streams::{element_at, giving, operator};
+use fixtures::lines_of;
 use ss_codec::Frame;
 use ss_elem::Element;
 use ss_plan::{Plan, vertices_by_number};
-use fixtures::lines_of;
 use ss_vertex::{ExecFault, Inst, SnapFault, snapshots_fit};
 use std::alloc::Global;
 use std::process::Abort;

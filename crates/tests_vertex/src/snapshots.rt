@@ -6,10 +6,10 @@ ghost use Rattle.ss_vertex.specs.Standing.{InstStands};
 
 use crate::jobs::{WINDOW, WINDOW_FILE, WINDOW_LINES};
 use crate::run::Run;
+use fixtures::made;
 use ss_codec::{Frame, get_frame, put_frame};
 use ss_frames::frames_have_codes;
 use ss_plan::Plan;
-use fixtures::made;
 use std::alloc::Global;
 use std::process::Abort;
 use std::test::Fail;

@@ -8,10 +8,10 @@ ghost use Rattle.ss_state.specs.NumbersOfMeaning.{GivesStream};
 ghost use Rattle.ss_vertex.specs.Arriving.{taken};
 ghost use Rattle.ss_vertex.specs.Calls.{IsElementAt};
 
+use fixtures::is_source;
 use ss_elem::Element;
 use ss_meaning::meaning_is_made_of_the_inputs;
 use ss_plan::{Plan, PlanFault, plain, plans_mean_jobs, vertices_by_number};
-use fixtures::is_source;
 use std::alloc::Global;
 use std::process::Abort;
 use std::test::Fail;
