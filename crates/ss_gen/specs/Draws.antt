@@ -1,5 +1,5 @@
 -- Numbers that are drawn one after the other.
-use Rattle.std.specs.Prelude.{ℕ, ◌+◌, ◌*◌, ◌/◌, ◌%◌, ◌^◌}
+use Rattle.std.specs.Prelude.{ℕ, zero, suc, ◌+◌, ◌*◌, ◌/◌, ◌%◌, ◌^◌}
 
 -- the state after one more draw
 abbrev pub next_state : ℕ → ℕ

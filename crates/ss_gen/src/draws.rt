@@ -9,6 +9,7 @@ const INCREMENT: u128 = 1_442_695_040_888_963_407;
 
 /// Numbers that are drawn one after the other from a seed, the same from the same seed: the upper bits of the state of
 /// a linear congruential generator.
+#[derive(Drop)]
 pub(crate) struct Draws {
     state: u64,
 }

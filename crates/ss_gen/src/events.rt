@@ -74,7 +74,7 @@ fn drawn_row(i: u64, seed: u64, draws: &mut Draws) -> Row
 
 /// Appends the line of a row, or a part of it where memory runs out.
 fn put_row(row: &Row, out: &mut Vec<u8>) -> Result<(), Memory>
-    ensures text { OnOk result (out.new.items ≡ out.old.items ++ line_of row.now) }
+    ensures text { OnOk result (out.new.items ≡ out.old.items ++ row_text (row_told row.now)) }
     ensures part { OnErr result (Extends out.old.items out.new.items) }
 {
     put(

@@ -8,7 +8,7 @@ use Rattle.ss_job.specs.declared.op.Op.{Op}
 use Rattle.ss_job.specs.declared.op.Op.TheVariants as op
 use Rattle.ss_report.specs.declared.state_row.StateRow.{StateRow}
 use Rattle.ss_report.specs.declared.state_row.StateRow.TheVariants.{Source, Inner, Up, Down, Sink, Journal}
-use Rattle.ss_report.specs.declared.state_row.StateRow.TheVariants.{Vertex, Checked, Summary, Done}
+use Rattle.ss_report.specs.declared.state_row.StateRow.TheVariants.{Vertex, Checked, Summary, Done, Written}
 use Rattle.ss_water.specs.declared.snap_row.SnapRow.{SnapRow}
 
 -- the word for what a vertex does
@@ -90,6 +90,7 @@ state_text roles (Vertex v op inputs width) = vertex_text roles v op (take width
 state_text roles (Checked count) = codes "ok " ++ decimal count ++ codes "\n"
 state_text roles (Summary k taken) = codes "sink " ++ name_of roles k ++ codes " " ++ decimal taken ++ codes "\n"
 state_text roles Done = codes "done\n"
+state_text roles Written = codes "written gen-job.toml gen-a.csv gen-b.csv\n"
 
 -- the vertices of a row have roles, and it has no more than 8 inputs
 pub record HasInputs (roles : List Role) (v : ℕ) (inputs : List ℕ) (width : ℕ) : Type 0 where
@@ -114,3 +115,4 @@ IsRowOf roles (Vertex v op inputs width) = HasInputs roles v inputs width
 IsRowOf roles (Checked count) = Unit {0}
 IsRowOf roles (Summary k taken) = k < length roles
 IsRowOf roles Done = Unit {0}
+IsRowOf roles Written = Unit {0}

@@ -73,6 +73,7 @@ fn write_row(row: &StateRow<'_>, roles: &[Role], out: &mut Vec<u8>) -> Result<()
         ),
         StateRow::Summary { k, taken } => put_summary(*k, *taken, roles, out),
         StateRow::Done => put(out, &[b"done\n"]),
+        StateRow::Written => put(out, &[b"written gen-job.toml gen-a.csv gen-b.csv\n"]),
     }
 }
 

@@ -100,4 +100,6 @@ pub enum StateRow<'a> {
     },
     /// A run is done: `done`.
     Done,
+    /// A job with large event files was made: `written FILE FILE FILE`.
+    Written,
 }

@@ -2,9 +2,9 @@
 use Rattle.std.specs.Prelude.{◌≡◌, Option, Some, None, Result, Ok, Err, option_map}
 use Rattle.clap.specs.declared.error.kind.ErrorKind.{ErrorKind}
 use Rattle.clap.specs.declared.error.kind.ErrorKind.TheVariants.{OutOfMemory}
-use Rattle.ss_words.specs.Words.{CommandText, Given, RunText, check_job, plain_job, run_job, play_job}
+use Rattle.ss_words.specs.Words.{CommandText, Given, RunText, check_job, plain_job, run_job, play_job, gen_from}
 use Rattle.ss_words.specs.declared.command.Command.{Command}
-use Rattle.ss_words.specs.declared.command.Command.TheVariants.{Check, Plain, Run, Play}
+use Rattle.ss_words.specs.declared.command.Command.TheVariants.{Check, Plain, Run, Play, Gen}
 use Rattle.ss_words.specs.declared.command.RunOptions.{RunOptions}
 use Rattle.ss_words.specs.declared.given.Given as values
 use Rattle.ss_words.specs.declared.words.WordsFault.{WordsFault}
@@ -33,6 +33,7 @@ command_text (Check job) = check_job job.now
 command_text (Plain job) = plain_job job.now
 command_text (Run job run) = run_job job.now (run_text run)
 command_text (Play job schedule) = play_job job.now schedule.now
+command_text (Gen seed) = gen_from seed
 
 -- the fault that is told for a kind of `clap`'s errors
 abbrev pub fault_of_kind : ErrorKind → WordsFault

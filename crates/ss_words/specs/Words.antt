@@ -1,5 +1,5 @@
 -- Which command the words after the program's name say.
-use Rattle.std.specs.Prelude.{ℕ, ◌&&◌, ◌||◌, not, nat_le, Bool, true, List, [], ◌∷◌, length, Option, Some, None}
+use Rattle.std.specs.Prelude.{ℕ, ◌&&◌, ◌||◌, not, nat_le, nat_lt, ◌^◌, Bool, true, List, [], ◌∷◌, length, Option, Some, None}
 use Rattle.std.specs.Prelude.{option_and_then, option_map, is_some, if◌then◌else◌, codes, bytes_eq, ⊤}
 use Rattle.std.specs.Char.{is_ascii_digit}
 use Rattle.std.specs.List.{list_all}
@@ -35,13 +35,16 @@ pub data CommandText : Type 0 where
   run_job : List ℕ → RunText → CommandText
   -- of a job file and a schedule
   play_job : List ℕ → List ℕ → CommandText
+  -- a job with large event files is made, from a seed
+  gen_from : ℕ → CommandText
 
--- the name of its job file
-abbrev pub job_of : CommandText → List ℕ
-job_of (check_job file) = file
-job_of (plain_job file) = file
-job_of (run_job file run) = file
-job_of (play_job file schedule) = file
+-- the name of its job file, where it reads one
+abbrev pub job_of : CommandText → Option (List ℕ)
+job_of (check_job file) = Some file
+job_of (plain_job file) = Some file
+job_of (run_job file run) = Some file
+job_of (play_job file schedule) = Some file
+job_of (gen_from seed) = None
 
 -- a word that has to be given
 abbrev pub required_word : List ℕ → Rule
@@ -85,6 +88,12 @@ is_file_word word = nat_le 1 (length word) && nat_le (length word) 200
 abbrev pub workers_in : List ℕ → Option ℕ
 workers_in word =
     if list_all is_ascii_digit word && nat_le 1 (digits_value 10 word) && nat_le (digits_value 10 word) 8
+    then Some (digits_value 10 word) else None
+
+-- the number that a word says where it says a seed: decimal digits, with a value below 2 ^ 64
+abbrev pub seed_in : List ℕ → Option ℕ
+seed_in word =
+    if nat_le 1 (length word) && list_all is_ascii_digit word && nat_lt (digits_value 10 word) (2 ^ 64)
     then Some (digits_value 10 word) else None
 
 -- the values of the options, where they are given
@@ -136,22 +145,32 @@ schedule_given given = do
   schedule ← given.schedule
   if is_file_word schedule then Some schedule else None
 
+-- a job is made from the seed that a word says
+abbrev pub gen_given : List ℕ → Given → Option CommandText
+gen_given word given = do
+  seed ← seed_in word
+  alone (gen_from seed) given
+
 -- the command of an action with a job file and options
-abbrev pub command_for : List ℕ → List ℕ → Given → Option CommandText
-command_for action job given =
+abbrev pub command_with_job : List ℕ → List ℕ → Given → Option CommandText
+command_with_job action job given =
     if bytes_eq action (codes "check") then alone (check_job job) given
     else (if bytes_eq action (codes "plain") then alone (plain_job job) given
     else (if bytes_eq action (codes "run") then option_map (run_job job) (run_given given)
     else (if bytes_eq action (codes "play") then option_map (play_job job) (schedule_given given) else None)))
 
--- the command that words say in which `clap` finds this: their subject names a file, and options are given as the
--- action takes them
+-- the command of an action with a subject and options: the subject is a seed for `gen`, and otherwise names a file
+abbrev pub command_for : List ℕ → List ℕ → Given → Option CommandText
+command_for action subject given =
+    if bytes_eq action (codes "gen") then gen_given subject given
+    else (if is_file_word subject then command_with_job action subject given else None)
+
+-- the command that words say in which `clap` finds this: subject and options are given as the action takes them
 abbrev pub command_in : List Row → Option CommandText
 command_in rows = do
   action ← first_of (codes "ACTION") rows
-  job ← first_of (codes "SUBJECT") rows
-  check (is_file_word job)
-  command_for action job (given_in rows)
+  subject ← first_of (codes "SUBJECT") rows
+  command_for action subject (given_in rows)
 
 -- the command that the words after the program's name say
 unfoldable pub command_of : List (List ℕ) → Option CommandText

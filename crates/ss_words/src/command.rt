@@ -1,4 +1,4 @@
-ghost use Rattle.std.specs.Prelude.{◌≡◌};
+ghost use Rattle.std.specs.Prelude.{◌≡◌, option_map};
 ghost use Rattle.ss_words.specs.Answers.{command_text};
 
 /// How a job is run, besides its file.
@@ -39,20 +39,26 @@ pub enum Command<'a> {
         /// The schedule's file.
         schedule: &'a str,
     },
+    /// Makes a job with large event files.
+    Gen {
+        /// What the events are drawn from.
+        seed: u64,
+    },
 }
 
 impl<'a> Command<'a> {
     ghost use Rattle.ss_words.specs.Words.{job_of};
 
-    /// The job file.
-    pub fn job(&self) -> &'a str
-        ensures { result.now ≡ job_of (command_text self.now) }
+    /// The job file, where the command reads one.
+    pub fn job(&self) -> Option<&'a str>
+        ensures { option_map (λ file. file.now) result ≡ job_of (command_text self.now) }
     {
         match self {
-            Command::Check { job } => job,
-            Command::Plain { job } => job,
-            Command::Run { job, .. } => job,
-            Command::Play { job, .. } => job,
+            Command::Check { job } => Some(job),
+            Command::Plain { job } => Some(job),
+            Command::Run { job, .. } => Some(job),
+            Command::Play { job, .. } => Some(job),
+            Command::Gen { .. } => None,
         }
     }
 }

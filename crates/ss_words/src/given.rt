@@ -83,6 +83,19 @@ fn workers_in(word: &str) -> Option<u32>
     }
 }
 
+/// The number that a word says where it says a seed.
+pub(crate) fn seed_in(word: &str) -> Option<u64>
+    ensures { result ≡ spec.seed_in word.now }
+{
+    if word.is_empty() || !is_decimal(word) {
+        return None;
+    }
+    match word.parse::<u64>() {
+        Ok(seed) => Some(seed),
+        Err(_) => None,
+    }
+}
+
 /// Whether a word has decimal digits alone.
 fn is_decimal(word: &str) -> bool
     ensures { result ≡ list_all is_ascii_digit word.now }

@@ -4,7 +4,7 @@ ghost use Rattle.ss_words.specs.Words as spec;
 ghost use Rattle.ss_words.specs.Answers.{AnswersReading, command_text, fault_of_kind, given_text, run_text};
 
 use crate::command::{Command, RunOptions};
-use crate::given::{Given, file_given, is_file_word, workers_given};
+use crate::given::{Given, file_given, is_file_word, seed_in, workers_given};
 use clap::error::ErrorKind;
 use clap::{Arg, ArgMatches, Error};
 use std::alloc::{AllocError, Global};
@@ -34,8 +34,8 @@ pub enum WordsFault {
 
 /// Reads the words after the program's name.
 ///
-/// A command is an action, `check`, `plain`, `run` or `play`, and then the name of a job file. Options stand in any
-/// place before the word `--`, each at most once. `play` takes `--schedule`, which has to be given and names the
+/// A command is an action, `check`, `plain`, `run` or `play`, and then the name of a job file; or `gen` and then
+/// decimal digits with a value below 2^64, which takes no option. Options stand in any place before the word `--`, each at most once. `play` takes `--schedule`, which has to be given and names the
 /// schedule's file. `run` takes `--failures`, the file that lists failures, and either `--trace`, the name that the
 /// trace is put to, or `--workers`, decimal digits with a value of 1 to 8. Names have 1 to 200 bytes. A word that
 /// begins with `-` and has more bytes names a job file only behind the word `--`, and is the value of an option only
@@ -119,11 +119,8 @@ fn command_in<'a>(matches: &ArgMatches<'a>) -> Option<Command<'a>>
     ensures { option_map command_text result ≡ spec.command_in (rows_of (found_of matches.now)) }
 {
     let action = word_at(matches, ACTION)?;
-    let job = word_at(matches, SUBJECT)?;
-    if !is_file_word(job) {
-        return None;
-    }
-    command_for(action, job, &given_in(matches))
+    let subject = word_at(matches, SUBJECT)?;
+    command_for(action, subject, &given_in(matches))
 }
 
 /// The values of the options that `clap` found.
@@ -145,10 +142,35 @@ fn word_at<'a>(matches: &ArgMatches<'a>, name: &str) -> Option<&'a str>
     matches.get_str(name)
 }
 
-/// The command of an action with a job file and options.
-fn command_for<'a>(action: &str, job: &'a str, given: &Given<'a>) -> Option<Command<'a>>
+/// The command of an action with a subject and options.
+fn command_for<'a>(action: &str, subject: &'a str, given: &Given<'a>) -> Option<Command<'a>>
     ensures { option_map command_text result
-        ≡ spec.command_for action.now job.entry.now (given_text given.now) }
+        ≡ spec.command_for action.now subject.entry.now (given_text given.now) }
+{
+    match action {
+        "gen" => gen_of(subject, given),
+        _ => {
+            if is_file_word(subject) {
+                command_with_job(action, subject, given)
+            } else {
+                None
+            }
+        }
+    }
+}
+
+/// A job is made from a seed.
+fn gen_of<'a>(word: &str, given: &Given<'a>) -> Option<Command<'a>>
+    ensures { option_map command_text result ≡ spec.gen_given word.now (given_text given.now) }
+{
+    let seed = seed_in(word)?;
+    alone(Command::Gen { seed }, given)
+}
+
+/// The command of an action with a job file and options.
+fn command_with_job<'a>(action: &str, job: &'a str, given: &Given<'a>) -> Option<Command<'a>>
+    ensures { option_map command_text result
+        ≡ spec.command_with_job action.now job.entry.now (given_text given.now) }
 {
     match action {
         "check" => alone(Command::Check { job }, given),

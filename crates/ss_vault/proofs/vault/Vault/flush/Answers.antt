@@ -68,8 +68,8 @@ store-requires-clause-elements g c =
     let dur : (durable_of m c.args.v).dur ≡ c.dur-dur.result =
     ap (λ (n : VaultNumbers). (row_at n.ledger c.args.v).dur) c.reserve_entry.ensures.numbers ∙ sym c.dur-dur.ensures in
     let next_m : c.args.from ≤ (durable_of m c.args.v).dur = let h = c.if-from-dur.false in omega (arith, dur, h) in
-    let elements : List Element = c.behind-first.result.0.now ++ c.behind-first.result.1.now in
-    let are : elements ≡ drop k batch = c.behind-first.ensures in
+    let elements : List Element = c.behind.result.0.now ++ c.behind.result.1.now in
+    let are : elements ≡ drop k batch = c.behind.ensures in
     let long : length elements ≡ more = ap length are ∙ length-drop k batch in
     let whole : drop ((durable_of m c.args.v).dur - c.args.from) batch ≡ elements =
     ap (λ (n : ℕ). drop (n - c.args.from) batch) dur ∙ sym are in
@@ -98,8 +98,8 @@ returns-clause-answer g c =
     let dur : (durable_of m c.args.v).dur ≡ c.dur-dur.result =
     ap (λ (n : VaultNumbers). (row_at n.ledger c.args.v).dur) c.reserve_entry.ensures.numbers ∙ sym c.dur-dur.ensures in
     let next_m : c.args.from ≤ (durable_of m c.args.v).dur = let h = c.if-from-dur.false in omega (arith, dur, h) in
-    let elements : List Element = c.behind-first.result.0.now ++ c.behind-first.result.1.now in
-    let are : elements ≡ drop k batch = c.behind-first.ensures in
+    let elements : List Element = c.behind.result.0.now ++ c.behind.result.1.now in
+    let are : elements ≡ drop k batch = c.behind.ensures in
     let long : length elements ≡ more = ap length are ∙ length-drop k batch in
     let is : length elements + ((durable_of m c.args.v).dur - c.args.from) ≡ length batch = omega (arith, long, dur, known) in
     let due_m = subst (λ (n : VaultNumbers). nat_lt (plan_numbers plan).collect_every (n.ledger.since + length batch) ≡ false)
