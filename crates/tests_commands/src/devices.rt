@@ -56,12 +56,20 @@ pub(crate) fn outputs_of(alloc: Global, case: &Case) -> Result<MemOutputs, Stop>
 {
     let mut outputs = MemOutputs::new(alloc);
     for field in case.fields.iter() {
-        if field.word.as_str() == "put" {
-            let (number, kept) = put_of(alloc, field)?;
-            outputs.fail(number, kept)?;
-        }
+        list_put(alloc, field, &mut outputs)?;
     }
     Ok(outputs)
+}
+
+/// Lists a put that is to fail, if the field says one.
+fn list_put(alloc: Global, field: &Field, outputs: &mut MemOutputs) -> Result<(), Stop>
+    ensures told { mem_outputs_told outputs.new ≡ mem_outputs_told outputs.old }
+{
+    if field.word.as_str() == "put" {
+        let (number, kept) = put_of(alloc, field)?;
+        outputs.fail(number, kept)?;
+    }
+    Ok(())
 }
 
 /// The number of a put that is to fail, and how many bytes it keeps: `put 4 keeps 2`.
@@ -90,21 +98,20 @@ pub(crate) fn depot_of(alloc: Global, case: &Case) -> Result<MemDepot, Stop>
 {
     let mut depot = MemDepot::new(alloc);
     for field in case.fields.iter() {
-        if let Some(listed) = listed_by(alloc, field)? {
-            list(&mut depot, listed)?;
-        }
+        list_call(alloc, field, &mut depot)?;
     }
     Ok(depot)
 }
 
-/// Lists a call of a store.
-fn list(depot: &mut MemDepot, listed: Listed) -> Result<(), Stop>
-    ensures { mem_depot_told depot.new ≡ mem_depot_told depot.old }
+/// Lists a call of a store, if the field says one.
+fn list_call(alloc: Global, field: &Field, depot: &mut MemDepot) -> Result<(), Stop>
+    ensures told { mem_depot_told depot.new ≡ mem_depot_told depot.old }
 {
-    match listed {
-        Listed::Fails(which, number) => depot.fail(which, number)?,
-        Listed::ShortFetch(number) => depot.damage(DepotCall::Fetch, number)?,
-        Listed::ShortLoad(number) => depot.damage(DepotCall::Load, number)?,
+    match listed_by(alloc, field)? {
+        Some(Listed::Fails(which, number)) => depot.fail(which, number)?,
+        Some(Listed::ShortFetch(number)) => depot.damage(DepotCall::Fetch, number)?,
+        Some(Listed::ShortLoad(number)) => depot.damage(DepotCall::Load, number)?,
+        None => (),
     }
     Ok(())
 }
