@@ -244,7 +244,7 @@ fn flush_of(
         return Err("too many elements".into());
     }
     let elements = &stream[from..from + count];
-    Ok(vault.flush(plan, v, from as u64, elements))
+    Ok(vault.flush(plan, v, from as u64, elements, &[]))
 }
 
 /// Whether snapshot `n` is one of these.

@@ -45,7 +45,6 @@ const WORDS: [&[&str]; 41] = [
     &["play", "--schedule", "s.txt"],
     &["run", "job.toml", "--schedule", "s.txt"],
     &["plain", "--schedule=s.txt", "job.toml"],
-    &["gen", "0"],
     &["run", "job.toml", "--workers", "9"],
     &["run", "job.toml", "--workers", "0"],
     &["run", "job.toml", "--workers", "+1"],
