@@ -18,10 +18,10 @@ use Rattle.ss_outside.specs.Told.{InputsTold, OutputsTold, FileTold, KeepsInputs
 use Rattle.ss_plan.specs.Plan.{PlanText, AreSourceLists}
 use Rattle.ss_report.specs.declared.fault.Fault.{Fault}
 use Rattle.ss_report.specs.declared.fault.Fault.TheVariants as report
-use Rattle.ss_words.specs.Words.{CommandText, RunText, job_of}
+use Rattle.ss_words.specs.Words.{RunText}
 use Rattle.ss_command.specs.Computed.{StopsInStreams, StreamsFit, PutsStreams}
 use Rattle.ss_command.specs.Ends.{MayHave, PassesFailures, StopsAt, StopsInFailures, StopsOrWants, WantsMemory, Stops, IsDone, EndsBy}
-use Rattle.ss_command.specs.Order.{Reading, Gives, Value, failures_file, job_file, schedule_file, order_for, order_with, with_acts, with_failures, with_run, with_streams, with_sources, with_task, streams_fit, source_file}
+use Rattle.ss_command.specs.Order.{Reading, Gives, Value, failures_file, job_file, schedule_file, with_acts, with_failures, with_run, with_streams, with_sources, with_task, streams_fit, source_file}
 use Rattle.ss_command.specs.Order.{Order, Step, first, last, puts, acts, finish}
 use Rattle.ss_command.specs.Output.{Output, puts_of, sink_lines}
 use Rattle.ss_command.specs.Puts.{Went, WentWhole, StopsInPuts}
@@ -232,12 +232,12 @@ failures_keep read later job (Some file) triggers passes = passes.1
 
 -- ---- the whole work, once the words are taken
 
-pub work_ends : (command : CommandText) (job : JobText) (before after : Seen) (read : InputsTold) (status : ℕ) →
-    Gives (MayHave before.inputs) (job_file (job_of command)) job → KeepsInputs before.inputs read →
-    EndsBy (order_with command job) (at_inputs read before) after status → EndsBy (order_for command) before after status
-work_ends command job before after read status gives kept ends =
-    ends-first (job_file (job_of command)) (order_with command) job before after status gives
-    (ends-earlier (order_with command job) before after read status kept ends)
+pub job_ends : (file : List ℕ) (next : JobText → Order) (job : JobText) (before after : Seen) (read : InputsTold) (status : ℕ) →
+    Gives (MayHave before.inputs) (job_file file) job → KeepsInputs before.inputs read →
+    EndsBy (next job) (at_inputs read before) after status → EndsBy (first (job_file file) next) before after status
+job_ends file next job before after read status gives kept ends =
+    ends-first (job_file file) next job before after status gives
+    (ends-earlier (next job) before after read status kept ends)
 
 -- ---- what is known of the lists of sources
 

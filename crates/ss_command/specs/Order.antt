@@ -18,8 +18,8 @@ use Rattle.ss_plan.specs.Plan.{PlanText}
 use Rattle.ss_plan.specs.Streams.{every}
 use Rattle.ss_report.specs.StateText.{name_of}
 use Rattle.ss_report.specs.declared.fault.Fault.TheVariants.{Usage, Job, Events, Script, Full}
-use Rattle.ss_words.specs.Words.{CommandText, RunText, check_job, plain_job, run_job, play_job, job_of}
-use Rattle.ss_command.specs.Output.{Output, job_lines, sink_lines}
+use Rattle.ss_words.specs.Words.{CommandText, RunText, check_job, plain_job, run_job, play_job, gen_from}
+use Rattle.ss_command.specs.Output.{Output, job_lines, made_from, sink_lines}
 use Rattle.ss_command.specs.Refusal.{Refusal, refusal_of, shared}
 
 -- what words ask for, where they are a command
@@ -160,15 +160,13 @@ with_run job run =
     with_sources job 0 job.vertices (λ lists.
     with_failures job run.failures (λ triggers. with_task job lists (finish triggers run.trace)))
 
--- each command, once its job is read
-abbrev pub order_with : CommandText → JobText → Order
-order_with (check_job file) job = last (puts (job_lines job))
-order_with (plain_job file) job = with_streams job
-order_with (run_job file run) job = with_run job run
-order_with (play_job file schedule) job = with_acts job schedule
-
+-- each command that reads a job, once it is read, and one that makes a job
 abbrev pub order_for : CommandText → Order
-order_for command = first (job_file (job_of command)) (order_with command)
+order_for (check_job file) = first (job_file file) (λ job. last (puts (job_lines job)))
+order_for (plain_job file) = first (job_file file) with_streams
+order_for (run_job file run) = first (job_file file) (λ job. with_run job run)
+order_for (play_job file schedule) = first (job_file file) (λ job. with_acts job schedule)
+order_for (gen_from seed) = last (puts (made_from seed))
 
 -- of all commands
 abbrev pub order_of : Asked → Order

@@ -1,12 +1,14 @@
 -- What a command puts where its work is done.
-use Rattle.std.specs.Prelude.{ℕ, zero, suc, Bool, false, List, [], ◌∷◌, ◌++◌, length, Option, Some, None}
+use Rattle.std.specs.Prelude.{ℕ, zero, suc, ◌+◌, ◌%◌, ◌^◌, Bool, false, List, [], ◌∷◌, ◌++◌, length, Option, Some, None}
 use Rattle.std.specs.Prelude.{option_and_then, slice_get, bytes_eq, codes}
 use Rattle.std.specs.List.{list_any}
 use Rattle.std.specs.Option.{option_map_or}
 use Rattle.ss_elem.specs.declared.element.Element.{Element}
+use Rattle.ss_gen.specs.Events.{events_text}
+use Rattle.ss_gen.specs.Job.{job_text}
 use Rattle.ss_job.specs.JobText.{VertexText, source, inner, sink, JobText, op_of}
 use Rattle.ss_report.specs.StateText.{state_text}
-use Rattle.ss_report.specs.declared.state_row.StateRow.TheVariants.{Vertex, Checked}
+use Rattle.ss_report.specs.declared.state_row.StateRow.TheVariants.{Vertex, Checked, Written}
 use Rattle.ss_water.specs.declared.node.Node.{Node}
 use Rattle.ss_job.specs.declared.op.Op.{Op}
 use Rattle.ss_meaning.specs.Meaning.{meaning}
@@ -19,6 +21,8 @@ pub data Output : Type 0 where
   job_lines : JobText → Output
   -- the lines of each sink of a plan
   sink_lines : PlanText → Output
+  -- a job and its event files, which are drawn from a seed
+  made_from : ℕ → Output
 
 -- ---- check: the lines of the job
 
@@ -79,6 +83,13 @@ shows job v = option_map_or (λ file. bytes_eq file (codes "-")) (sink_file job 
 abbrev pub shows_sink : JobText → Bool
 shows_sink job = list_any writes_to_output job.vertices
 
+-- ---- gen: a job, its two event files, and a line that says so
+
+abbrev pub made_puts : ℕ → List Put
+made_puts seed =
+    put_of (codes "gen-job.toml") job_text ∷ put_of (codes "gen-a.csv") (events_text seed)
+    ∷ put_of (codes "gen-b.csv") (events_text ((seed + 1) % 2 ^ 64)) ∷ put_of (codes "-") (state_text [] Written) ∷ []
+
 -- ---- the puts of each output
 
 -- what a plan means: the stream of each vertex
@@ -89,3 +100,4 @@ meaning_of plan = meaning (vertices_of plan)
 abbrev pub puts_of : Output → List Put
 puts_of (job_lines job) = check_puts job
 puts_of (sink_lines plan) = all_sink_puts plan.job (meaning_of plan)
+puts_of (made_from seed) = made_puts seed

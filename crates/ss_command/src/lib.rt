@@ -3,6 +3,7 @@
 
 mod check;
 mod computed;
+mod generate;
 mod outside;
 mod perform;
 mod plain;

@@ -1,7 +1,7 @@
 -- Words worked out: the commands that they say.
 use Rattle.std.proofs.Common.{◌≡◌, ℕ, List, [], ◌∷◌, Some, None, codes, refl, replicate}
 use Rattle.ss_words.proofs.OnLiterals.{words_on_literals}
-use Rattle.ss_words.specs.Words.{CommandText, RunText, check_job, command_of, play_job, run_job}
+use Rattle.ss_words.specs.Words.{CommandText, RunText, check_job, command_of, gen_from, play_job, run_job}
 
 -- nothing is said but the job
 abbrev no_options : RunText
@@ -300,3 +300,24 @@ plain-with-workers = refl
 check-with-a-trace : command_of (codes "check" ∷ codes "job.toml" ∷ codes "--trace=t" ∷ []) ≡ None
 unfolding words_on_literals
 check-with-a-trace = refl
+
+-- a seed has decimal digits, as many as may be, and a value below 2 ^ 64
+gen-from-zeros : command_of (codes "gen" ∷ codes "007" ∷ []) ≡ Some (gen_from 7)
+unfolding words_on_literals
+gen-from-zeros = refl
+
+gen-with-plus : command_of (codes "gen" ∷ codes "+1" ∷ []) ≡ None
+unfolding words_on_literals
+gen-with-plus = refl
+
+gen-from-the-last : command_of (codes "gen" ∷ codes "18446744073709551615" ∷ []) ≡ Some (gen_from 18446744073709551615)
+unfolding words_on_literals
+gen-from-the-last = refl
+
+gen-from-too-much : command_of (codes "gen" ∷ codes "18446744073709551616" ∷ []) ≡ None
+unfolding words_on_literals
+gen-from-too-much = refl
+
+gen-with-a-trace : command_of (codes "gen" ∷ codes "1" ∷ codes "--trace=t" ∷ []) ≡ None
+unfolding words_on_literals
+gen-with-a-trace = refl

@@ -1,4 +1,5 @@
 mod Examples
 pub mod OnLiterals
 pub mod Reading
+pub mod Seeds
 pub mod Workers

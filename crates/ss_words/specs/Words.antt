@@ -38,14 +38,6 @@ pub data CommandText : Type 0 where
   -- a job with large event files is made, from a seed
   gen_from : ℕ → CommandText
 
--- the name of its job file, where it reads one
-abbrev pub job_of : CommandText → Option (List ℕ)
-job_of (check_job file) = Some file
-job_of (plain_job file) = Some file
-job_of (run_job file run) = Some file
-job_of (play_job file schedule) = Some file
-job_of (gen_from seed) = None
-
 -- a word that has to be given
 abbrev pub required_word : List ℕ → Rule
 required_word name = record (new_rule name) { required = true }

@@ -1,6 +1,3 @@
-ghost use Rattle.std.specs.Prelude.{◌≡◌, option_map};
-ghost use Rattle.ss_words.specs.Answers.{command_text};
-
 /// How a job is run, besides its file.
 #[derive(Clone, Copy, Debug, PartialEq, Eq)]
 pub struct RunOptions<'a> {
@@ -44,21 +41,4 @@ pub enum Command<'a> {
         /// What the events are drawn from.
         seed: u64,
     },
-}
-
-impl<'a> Command<'a> {
-    ghost use Rattle.ss_words.specs.Words.{job_of};
-
-    /// The job file, where the command reads one.
-    pub fn job(&self) -> Option<&'a str>
-        ensures { option_map (λ file. file.now) result ≡ job_of (command_text self.now) }
-    {
-        match self {
-            Command::Check { job } => Some(job),
-            Command::Plain { job } => Some(job),
-            Command::Run { job, .. } => Some(job),
-            Command::Play { job, .. } => Some(job),
-            Command::Gen { .. } => None,
-        }
-    }
 }

@@ -1,5 +1,5 @@
 use ss_elem::Element;
-use ss_tail::{Memory, Shown, Tail, Wrote};
+use ss_tail::{Batch, Memory, Shown, Tail, Wrote};
 use std::alloc::Global;
 use std::test::Fail;
 
@@ -100,19 +100,98 @@ fn a_batch_begins_where_nothing_is_told_to_be_stored(rt: HostRuntime) -> Result<
     ];
     for (dur, most, from, count) in cases {
         tail.note(dur);
-        let (first, items) = tail.batch(most);
-        assert!(rt; (first, items.len()) == (from, count), "{dur} {most}");
-        for (k, item) in items.iter().enumerate() {
-            assert!(rt;
-                *item == element(first.saturating_add(k as u64)),
-                "{dur} {most} {k}"
-            );
-        }
+        let batch = tail.batch(most);
+        assert!(rt; batch.from == from && batch.first.len() == count, "{dur} {most}");
+        assert!(rt; has_elements(&batch), "{dur} {most}");
     }
     let mut trimmed = tail_of(rt.alloc(), 5)?;
     trimmed.trim(3);
-    let (first, items) = trimmed.batch(64);
-    assert!(rt; (first, items) == (3, [element(3), element(4)].as_slice()));
+    let batch = trimmed.batch(64);
+    assert!(rt; batch.from == 3 && batch.first == [element(3), element(4)].as_slice());
+    assert!(rt; batch.rest.is_empty());
+    Ok(())
+}
+
+/// Whether the elements of a batch are those that have its numbers.
+fn has_elements(batch: &Batch<'_>) -> bool {
+    let mut n = batch.from;
+    for x in batch.first {
+        if *x != element(n) {
+            return false;
+        }
+        n = n.saturating_add(1);
+    }
+    for x in batch.rest {
+        if *x != element(n) {
+            return false;
+        }
+        n = n.saturating_add(1);
+    }
+    true
+}
+
+#[test]
+fn pages_come_with_their_first_element_and_go_with_their_last(rt: HostRuntime) -> Result<(), Fail> {
+    let mut tail = tail_of(rt.alloc(), 130)?;
+    assert_eq!(rt; tail.pages(), 3);
+    // In the middle of a page, up to its last element, a whole page, and all.
+    let cases = [(1, 3), (63, 3), (64, 2), (100, 2), (128, 1), (129, 1), (130, 0)];
+    for (m, pages) in cases {
+        tail.trim(m);
+        assert!(rt; tail.pages() == pages && tail.from() == m, "{m}");
+        assert!(rt; m == 130 || tail.read(m) == Shown::Item(element(m)), "{m}");
+    }
+    assert!(rt; write(&mut tail, 130)? == Some(Wrote::Stored));
+    assert_eq!(rt; tail.pages(), 1);
+    assert_eq!(rt; tail.lose(), 1);
+    assert_eq!(rt; tail.pages(), 0);
+    tail.restart(191);
+    assert!(rt; write(&mut tail, 191)? == Some(Wrote::Stored));
+    assert!(rt; write(&mut tail, 192)? == Some(Wrote::Stored));
+    assert_eq!(rt; tail.pages(), 2);
+    assert!(rt; tail.read(191) == Shown::Item(element(191)));
+    assert!(rt; tail.read(192) == Shown::Item(element(192)));
+    Ok(())
+}
+
+#[test]
+fn a_batch_goes_over_the_end_of_a_page(rt: HostRuntime) -> Result<(), Fail> {
+    let mut tail = tail_of(rt.alloc(), 130)?;
+    // What is told, what is asked for, and how many elements are in the first page and in the next.
+    let cases = [
+        (0, 64, 64, 0),
+        (32, 64, 32, 32),
+        (32, 10, 10, 0),
+        (63, 64, 1, 63),
+        (64, 64, 64, 0),
+        (127, 64, 1, 2),
+        (128, 64, 2, 0),
+        (130, 64, 0, 0),
+    ];
+    for (dur, most, first, rest) in cases {
+        tail.note(dur);
+        let batch = tail.batch(most);
+        assert!(rt; batch.from == dur, "{dur} {most}");
+        assert!(rt; batch.first.len() == first && batch.rest.len() == rest, "{dur} {most}");
+        assert!(rt; has_elements(&batch), "{dur} {most}");
+    }
+    Ok(())
+}
+
+#[test]
+fn a_refused_page_leaves_the_tail_as_it_was(rt: HostRuntime) -> Result<(), Fail> {
+    let mut tail = Tail::new(rt.alloc());
+    // Where an allocation is made to fail, the write that needed it is done once more.
+    for n in 0..200 {
+        let before = (numbers(&tail), tail.pages());
+        let refused = write(&mut tail, n).is_err();
+        if refused {
+            assert!(rt; (numbers(&tail), tail.pages()) == before, "{n}");
+            assert!(rt; write(&mut tail, n)? == Some(Wrote::Stored), "{n}");
+        }
+        assert!(rt; tail.end() == n.saturating_add(1), "{n}");
+        assert!(rt; tail.read(n) == Shown::Item(element(n)), "{n}");
+    }
     Ok(())
 }
 

@@ -1,9 +1,9 @@
-use Rattle.std.proofs.Common.{◌≡◌, ◌+◌, ℕ, None, List, length, refl, sym, ap, subst, ◌∙◌, arith}
+use Rattle.std.proofs.Common.{◌≡◌, length, sym, ◌∙◌}
 use Rattle.std.specs.Prelude.{IsSome}
 use Rattle.ss_elem.specs.Validity.{next_bound}
 use Rattle.ss_elem.specs.declared.element.Element.{Element}
 use Rattle.ss_outside.specs.Depot.{DepotTold}
-use Rattle.ss_vault.proofs.AppendedBoth.{all_rest, appended_both, appended_front, none_stops, stops_both, stops_front}
+use Rattle.ss_vault.proofs.AppendedBoth.{all_rest, appended_both, none_stops, stops_both}
 use Rattle.ss_vault.proofs.Appending.{appended_next}
 use Rattle.ss_vault.proofs.Behind.{none_of}
 use Rattle.ss_vault.proofs.storing.append_both.Goals as goal
