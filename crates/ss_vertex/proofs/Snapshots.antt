@@ -7,7 +7,6 @@ use Rattle.std.proofs.lemmas.List.Sums.{sum_by-le}
 use Rattle.std.specs.List.{slice_get, sum}
 use Rattle.std.specs.Option.{option_map_or}
 use Rattle.ss_codec.specs.Frame.{IsFrame}
-use Rattle.ss_elem.specs.Rows.{IsKept}
 use Rattle.ss_codec.specs.declared.frame.Frame.{Frame}
 use Rattle.ss_elem.specs.Validity.{top}
 use Rattle.ss_elem.specs.declared.element.Element.{Element}
@@ -31,7 +30,7 @@ use Rattle.ss_meaning.specs.Meaning.{reads, vertex, meaning, merged}
 use Rattle.ss_meaning.specs.Merge.{Arrival, from_input}
 use Rattle.ss_meaning.specs.Positions.{mlen, pos, positions, out}
 use Rattle.ss_merge.specs.Merging.{MergerState, merger_after, first_inputs}
-use Rattle.ss_oper.specs.Laws.{IsOfProgram, MayArriveAt, ImagesAreReadAgain}
+use Rattle.ss_oper.specs.Laws.{MayArriveAt, ImagesAreReadAgain}
 use Rattle.ss_oper.specs.Standing.{OperState, CountFew, remembered}
 use Rattle.ss_plan.specs.Limit.{IsPlan}
 use Rattle.ss_plan.specs.Plan.{PlanText, vertices_of}
@@ -97,11 +96,6 @@ earlier s t (Row row) h k = (omega arith, omega arith)
 earlier s t (Cti time) h k = omega arith
 earlier s t End h k = tt
 
-of_program : (x : Element) → IsKept x → IsOfProgram x
-of_program (Row row) h = h
-of_program (Cti time) h = tt
-of_program End h = tt
-
 accepted_early : MeaningIsWhole → MeaningIsEarly → ArrivalsFollow → (plan : PlanText) (v : ℕ) (s : Spec) → Operator plan v s → (i : ℕ) (y : Arrival)
     → slice_get (merged (vertices_of plan) v) i ≡ Some y → IsBefore (2 ^ 62 + 2 ^ 52) y.element
 accepted_early whole_law early follow plan v s o i y at =
@@ -127,7 +121,7 @@ may_arrive whole_law early follow plan v n s o kept i d k =
     let all = merged (vertices_of plan) v in
     let y : Arrival = get_or (take n all) i d in
     record {
-      kept = of_program y.element (kept i d k);
+      kept = kept i d k;
       early = accepted_early whole_law early follow plan v s o i y (taken_at all n i d k);
     }
   where
