@@ -1,4 +1,7 @@
 //! Why a file has no cases, or a field no text.
+
+ghost use Rattle.std.specs.Prelude.{◌≡◌};
+
 use std::alloc::{AllocError, AllocFailed};
 
 /// What is wrong with a file of cases.
@@ -47,6 +50,8 @@ impl<T: Drop> From<AllocFailed<T>> for CasesFault {
 }
 
 /// What is wrong at a line.
-pub(crate) fn bad(line: u64, why: CasesWhy) -> CasesFault {
+pub(crate) fn bad(line: u64, why: CasesWhy) -> CasesFault
+    ensures { result ≡ CasesFault.At line why }
+{
     CasesFault::At { line, why }
 }

@@ -1,5 +1,7 @@
 //! What stands in braces: a text so many times, or a number that grows with the turns of a repeat.
 
+ghost use Rattle.std.specs.Prelude.{◌≡◌, ◌+◌, ◌*◌, IfSome};
+
 /// The parts of a number that grows: at turn i it is `(times * i + more) % modulus`, or without the last where there
 /// is no modulus.
 #[derive(Clone, Copy)]
@@ -12,11 +14,18 @@ struct Growth {
 /// The number that stands in braces, at this turn: `i`, `3*i`, `i+1`, `3*i+1`, `i%7`, `3*i+1%7`.
 pub(crate) fn number_at(group: &str, turn: u64) -> Option<u64> {
     let growth = growth_of(group)?;
-    let grown = growth.times.checked_mul(turn)?.checked_add(growth.more)?;
+    let grown = sum_at(growth.times, growth.more, turn)?;
     match growth.modulus {
         Some(modulus) => grown.checked_rem(modulus),
         None => Some(grown),
     }
+}
+
+/// The number `times * turn + more`, if it fits.
+fn sum_at(times: u64, more: u64, turn: u64) -> Option<u64>
+    ensures { IfSome result (λ sum. sum ≡ times * turn + more) }
+{
+    times.checked_mul(turn)?.checked_add(more)
 }
 
 /// Reads such a number.
