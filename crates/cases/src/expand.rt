@@ -13,17 +13,45 @@ pub fn rest_of(alloc: Global, field: &Field) -> Result<Vec<u8>, CasesFault> {
     Ok(out)
 }
 
-/// The words behind the field's word, which spaces part. A space within a word is `\s`, a word without a byte `\e`.
+/// The words behind the field's word, which spaces part. A space within a word is `\s`, a word without a byte `\e`;
+/// spaces between braces part no words.
 pub fn words_of(alloc: Global, field: &Field) -> Result<Vec<String>, CasesFault> {
     let mut words = Vec::new(alloc);
-    for word in field.rest.as_str().split(" ") {
-        if !word.is_empty() {
-            let mut bytes = Vec::new(alloc);
-            put_text(&mut bytes, word, 0, field.line)?;
-            words.push(string_of(alloc, bytes.as_slice(), field.line)?)?;
+    let mut word = String::new(alloc);
+    for part in field.rest.as_str().split(" ") {
+        word.push_str(part)?;
+        if is_open(word.as_str()) {
+            word.push(' ')?;
+        } else {
+            put_word(alloc, &mut words, word.as_str(), field.line)?;
+            word = String::new(alloc);
         }
     }
+    put_word(alloc, &mut words, word.as_str(), field.line)?;
     Ok(words)
+}
+
+/// Whether the last brace of a text is not closed.
+fn is_open(text: &str) -> bool {
+    match text.rsplit_once("\\{") {
+        Some((_, group)) => !group.contains("}"),
+        None => false,
+    }
+}
+
+/// Appends a word, if it has a byte before its escapes are expanded.
+fn put_word(
+    alloc: Global,
+    words: &mut Vec<String>,
+    word: &str,
+    line: u64,
+) -> Result<(), CasesFault> {
+    if !word.is_empty() {
+        let mut bytes = Vec::new(alloc);
+        put_text(&mut bytes, word, 0, line)?;
+        words.push(string_of(alloc, bytes.as_slice(), line)?)?;
+    }
+    Ok(())
 }
 
 /// The bytes of the field's lines, each with its newline, unless a backslash ends it.
@@ -142,8 +170,10 @@ fn put_group<'a>(
 /// Appends a text so many times.
 fn put_copies(out: &mut Vec<u8>, count: &str, text: &str, line: u64) -> Result<(), CasesFault> {
     let count = number_of(count).ok_or(bad(line, CasesWhy::BadNumber))?;
+    let mut once = Vec::new(*out.allocator());
+    put_bytes(&mut once, text, line)?;
     for _ in 0..count {
-        put_bytes(out, text, line)?;
+        out.extend_from_slice(once.as_slice())?;
     }
     Ok(())
 }

@@ -20,6 +20,10 @@ pub enum CasesWhy {
     BadRepeat,
     /// A word is no text in UTF-8.
     NoText,
+    /// Whoever walks the cases knows no field of this word.
+    UnknownField,
+    /// The words behind a field's word aren't those that it takes.
+    BadWords,
 }
 
 /// A fault of a file of cases, or want of memory.

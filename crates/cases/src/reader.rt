@@ -89,7 +89,7 @@ fn kind_of(word: &str) -> Option<Kind> {
     }
 }
 
-/// Appends the fields of the last `given` of that name to the last block.
+/// Appends the fields of the `given` of that name to the last block.
 fn take_given(
     alloc: Global,
     blocks: &mut Vec<Block>,

@@ -6,31 +6,15 @@ ghost use Rattle.std.specs.Prelude.{◌≡◌, ◌⊎◌, ◌↔◌, drop, map, 
 ghost use Rattle.ss_outside.specs.Depot.{no_contents};
 ghost use Rattle.ss_vault.specs.Calls.{HaveNoBytes};
 ghost use Rattle.ss_words.specs.Words.{command_of};
-ghost use Rattle.streamscope.specs.Ends.{Ends, TellsNoWords};
-ghost use Rattle.streamscope.specs.Seen.{seen};
+ghost use Rattle.ss_command.specs.Ends.{Ends, TellsNoWords};
+ghost use Rattle.ss_command.specs.Seen.{seen};
 ghost use Rattle.std.specs.Vec.Iter.{into_iter_items};
 ghost use Rattle.std.specs.Process.{exit_status};
 
-mod check;
-mod computed;
-mod outside;
-mod perform;
-mod plain;
-mod plans;
-mod play;
-mod read;
-mod run;
-mod sinks;
-mod sources;
-mod summary;
-mod telling;
 #[cfg(test)]
 mod tests;
-mod work;
-mod write;
 
-use crate::outside::Outside;
-use crate::perform::{perform, refuse};
+use ss_command::{Outside, perform, refuse};
 use ss_outside::{Depot, FileInputs, FileOutputs, Inputs, MemDepot, Outputs};
 use ss_report::Fault;
 use std::alloc::{AllocError, Global};
