@@ -1,10 +1,8 @@
-//! Runs the cases of the parts of a job: elements, event files, expressions, scripts, codecs, images, windows, joins and
-//! operators. Each file of cases says at its head which words its cases have.
+//! Runs the cases of the parts of a job: elements, expressions, codecs, images, windows, joins and operators. Each file of cases says at its head which words its cases have.
 #![tactic(auto)]
 
 mod bytes;
 mod elements;
-mod events;
 mod expressions;
 mod images;
 mod joins;
@@ -13,7 +11,6 @@ mod machine;
 mod merged;
 mod operators;
 mod parts;
-mod scripts;
 mod spec;
 mod told;
 mod walk;
@@ -24,11 +21,9 @@ use cases::read_cases;
 use ss_outside::{FileInputs, Inputs};
 use std::test::Fail;
 
-const FILES: [&str; 9] = [
+const FILES: [&str; 7] = [
     "elements.cases",
-    "events.cases",
     "expressions.cases",
-    "scripts.cases",
     "codecs.cases",
     "images.cases",
     "windows.cases",

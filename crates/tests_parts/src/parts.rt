@@ -1,9 +1,8 @@
 //! What the fields of a case set, and what they tell.
 use crate::bytes::{self, changed, sealed};
 use crate::merged::Inputs;
-use crate::{elements, events, expressions, images, joins, operators, scripts, windows};
+use crate::{elements, expressions, images, joins, operators, windows};
 use cases::{Field, rest_of, text_of, words_of};
-use ss_events::Late;
 use ss_expr::ValueKind;
 use std::alloc::Global;
 use std::test::Fail;
@@ -70,13 +69,9 @@ impl Parts {
             "key" => elements::key(alloc, &rest),
             "next" => elements::next(alloc, self.bounds.first().copied(), str::from_utf8(&rest)?),
             "line" => elements::line_of(alloc, str::from_utf8(&rest)?),
-            "read" => events::read(alloc, &rest, Late::Refuse),
-            "drop" => events::read(alloc, &rest, Late::Drop),
             "number" => expressions::worth(alloc, str::from_utf8(&rest)?, ValueKind::Num),
             "truth" => expressions::worth(alloc, str::from_utf8(&rest)?, ValueKind::Truth),
             "text" => expressions::worth(alloc, str::from_utf8(&rest)?, ValueKind::Text),
-            "schedule" => scripts::schedule(alloc, &rest),
-            "failures" => scripts::failures(alloc, &rest),
             _ => self.asked_of_words(field),
         }
     }

@@ -1,10 +1,10 @@
 //! Collection between any two acts of a schedule: what comes of the others is the same, but where a replica that is
 //! behind finds an element gone.
-use ss_fail::{Act, Outcome};
 use fixtures::{
     Expected, FILE, JOB, LINES, PASS, Running, S, TAKE, W, behind, collect, crash, flush, flushed,
     gone, got, kept, known, load, loaded, lose, lost, read, snap, stored, three, took, trim, write,
 };
+use ss_fail::{Act, Outcome};
 use std::alloc::Global;
 use std::process::Abort;
 use std::test::Fail;

@@ -1,9 +1,9 @@
 //! A long job, by acts, of which only so much is stored at a time.
-use ss_fail::Outcome;
 use fixtures::{
     PASS, Pair, Running, file_of_blocks, flush, line_count, pairs_of, read, snap, take, totals_of,
     write,
 };
+use ss_fail::Outcome;
 use std::alloc::Global;
 use std::test::Fail;
 

@@ -1,10 +1,10 @@
 //! Acts that meet a fault.
-use ss_engine::EngineFault;
-use ss_fail::Outcome;
-use ss_outside::DepotCall;
 use fixtures::{
     Expected, FILE, JOB, Running, S, Trouble, flush, got, make_all, meets, read, stored, write,
 };
+use ss_engine::EngineFault;
+use ss_fail::Outcome;
+use ss_outside::DepotCall;
 use ss_vault::VaultFault;
 use std::test::Fail;
 

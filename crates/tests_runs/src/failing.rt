@@ -1,11 +1,11 @@
 //! The depot fails in a pass, or in the collects and trims of which a pass consists, at each of its calls in turn.
-use ss_engine::EngineFault;
-use ss_fail::{Act, Outcome};
-use ss_outside::DepotCall;
 use fixtures::{
     Expected, FILE, PASS, Running, S, Trouble, W, collect, flush, flushed, got, kept, make_all,
     meets, read, snap, stored, take, three, took, trim, write,
 };
+use ss_engine::EngineFault;
+use ss_fail::{Act, Outcome};
+use ss_outside::DepotCall;
 use ss_vault::VaultFault;
 use std::alloc::Global;
 use std::test::Fail;
