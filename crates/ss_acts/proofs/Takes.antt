@@ -1,10 +1,12 @@
 -- What a take leaves of the vault, and of the outputs.
-use Rattle.std.proofs.Common.{◌≡◌, ◌≢◌, ℕ, ◌==◌, nat_le, Bool, true, false, List, Some, Result, Ok, Err, refl, sym, ap, ◌∙◌, if◌then◌else◌, arith}
+use Rattle.std.proofs.Common.{◌≡◌, ◌≢◌, ℕ, ◌+◌, ◌==◌, nat_le, Bool, true, false, List, Some, Result, Ok, Err, refl, sym, ap, ◌∙◌, if◌then◌else◌, arith}
 use Rattle.std.proofs.lemmas.Bool.Decides.{nat_tests}
+use Rattle.std.proofs.lemmas.List.{get_or-set_same}
 use Rattle.std.proofs.lemmas.Slice.Eq.{bytes_eq-Decides}
 use Rattle.std.specs.Prelude.{bytes_eq}
 use Rattle.ss_acts.specs.Calls.{TakesLine}
-use Rattle.ss_acts.specs.Leaves.{PutsToSinksAlone}
+use Rattle.ss_acts.specs.Faults.{of_vault}
+use Rattle.ss_acts.specs.Leaves.{PutsToNoOther, PutsToTakers, sink_failed}
 use Rattle.ss_acts.specs.Told.{take_outcome}
 use Rattle.ss_acts.proofs.Goings.{goes_on}
 use Rattle.ss_elem.specs.Line.{line_of}
@@ -16,13 +18,14 @@ use Rattle.ss_outside.specs.declared.outputs.PutFault.{PutFault}
 use Rattle.ss_outside.specs.declared.outputs.PutFault.TheVariants as put
 use Rattle.ss_plan.specs.Plan.{PlanText}
 use Rattle.ss_state.specs.Acts.{VaultStep, take_act}
-use Rattle.ss_state.specs.Journal.{enter}
-use Rattle.ss_state.specs.Numbers.{JobNumbers, input, size, vertex}
-use Rattle.ss_state.specs.State.{VaultNumbers, row_at}
+use Rattle.ss_state.specs.Journal.{change, enter}
+use Rattle.ss_state.specs.Numbers.{IsSink, JobNumbers, input, size, vertex}
+use Rattle.ss_state.specs.State.{LedgerRow, VaultNumbers, empty_row, row_at}
 use Rattle.ss_state.specs.declared.entry.Entry.TheVariants as entry
 use Rattle.ss_vault.specs.Answers.{entry_of_take, take_answer}
 use Rattle.ss_vault.specs.Calls.{Delivers, PutsLine, Takes}
-use Rattle.ss_vault.specs.Told.{VaultTold, numbers_of}
+use Rattle.ss_vault.specs.Sound.{Sound, sink_file}
+use Rattle.ss_vault.specs.Told.{VaultTold, durable_of, numbers_of}
 use Rattle.ss_vault.specs.declared.answers.Take.{Take}
 use Rattle.ss_vault.specs.declared.answers.Take.TheVariants as take
 use Rattle.ss_vault.specs.declared.fault.VaultFault.{VaultFault}
@@ -70,7 +73,7 @@ takes plan k s u answer made = (
   goes_on plan s u (entry_of_take k answer) made.1,
 )
 
--- no other name is put to than that of a sink
+-- ---- which names are put to
 
 other_name : (name file : List ℕ) (b : Bool) → bytes_eq name file ≡ b → name ≢ file → bytes_eq name file ≡ false
 other_name name file true same other = absurd (other ((bytes_eq-Decides name file).0 same))
@@ -82,20 +85,44 @@ puts_alone old new file text name (Ok done) puts other = puts.0.others name (oth
 puts_alone old new file text name (Err put.Failed) puts other = puts.1.others name (other_name name file (bytes_eq name file) refl other)
 puts_alone old new file text name (Err put.Memory) puts other = ap (λ (f : List ℕ → Bool). f name) puts.put_to
 
-line_alone : (plan : PlanText) (k : ℕ) (s u : VaultTold) (answer : Result (Unit {0}) PutFault) → PutsLine plan k s answer u → PutsToSinksAlone plan s u
-line_alone plan k s u answer line name others =
+-- a line was put: to the sink's file alone
+line_alone : (plan : PlanText) (k : ℕ) (s u : VaultTold) (answer : Result (Unit {0}) PutFault) (line : PutsLine plan k s answer u) (name : List ℕ)
+    → sink_file plan k ≢ Some name → u.outputs.put_to name ≡ s.outputs.put_to name
+line_alone plan k s u answer line name other =
     puts_alone s.outputs u.outputs line.file (line_of line.next) name answer line.puts
-    (λ same. others k (line.is_file ∙ ap (λ (file : List ℕ). Some file) (sym same)))
+    (λ same. other (line.is_file ∙ ap (λ (file : List ℕ). Some file) (sym same)))
 
-same_alone : (plan : PlanText) (s u : VaultTold) → u.outputs ≡ s.outputs → PutsToSinksAlone plan s u
-same_alone plan s u same name others = ap (λ (o : OutputsTold). o.put_to name) same
+-- and the sink took one element more
+took_more : (plan : PlanText) (k : ℕ) (s u : VaultTold) → IsSink (plan_numbers plan) k → Sound plan s
+    → numbers_of u ≡ enter (plan_numbers plan) (numbers_of s) (Some (entry.Took k)) → (durable_of u k).taken ≡ (durable_of s k).taken + 1
+unfolding change
+took_more plan k s u sink sound e =
+    let row : LedgerRow = durable_of s k in
+    let rows = sound.numbers.stands.rows in
+    let within = sink.0 in
+    ap (λ (n : VaultNumbers). (row_at n.ledger k).taken) e
+    ∙ ap (λ (r : LedgerRow). r.taken)
+    (get_or-set_same (numbers_of s).ledger.rows k (record row { taken = row.taken + 1 }) empty_row (omega (arith, rows, within)))
 
-pub alone : (plan : PlanText) (k : ℕ) (s u : VaultTold) (result : Result Take VaultFault) → Delivers plan k s result u → PutsToSinksAlone plan s u
-alone plan k s u (Ok take.Ended) delivers = same_alone plan s u delivers
-alone plan k s u (Ok (take.NotYet dur)) delivers = same_alone plan s u delivers
-alone plan k s u (Ok (take.Took n)) delivers = line_alone plan k s u (Ok tt) delivers
-alone plan k s u (Err (fault.Store count)) delivers = same_alone plan s u delivers
-alone plan k s u (Err (fault.Output count)) delivers = line_alone plan k s u (Err put.Failed) delivers
-alone plan k s u (Err (fault.Damaged v n)) delivers = same_alone plan s u delivers
-alone plan k s u (Err fault.Halted) delivers = same_alone plan s u delivers
-alone plan k s u (Err fault.Memory) delivers = λ name others. ap (λ (f : List ℕ → Bool). f name) delivers.put_to
+took_puts : (plan : PlanText) (k n : ℕ) (s u : VaultTold) → IsSink (plan_numbers plan) k → Sound plan s → Takes plan k s (Ok (take.Took n)) u
+    → PutsLine plan k s (Ok tt) u → PutsToTakers plan s u
+took_puts plan k n s u sink sound takes line name none =
+    let more = took_more plan k s u sink sound takes.1.numbers in
+    line_alone plan k s u (Ok tt) line name (λ file. let as_before = none k file in absurd (omega (arith, more, as_before)))
+
+same_puts : (s u : VaultTold) → u.outputs ≡ s.outputs → (name : List ℕ) → u.outputs.put_to name ≡ s.outputs.put_to name
+same_puts s u same name = ap (λ (o : OutputsTold). o.put_to name) same
+
+pub puts_made : (plan : PlanText) (k : ℕ) (s u : VaultTold) (answer : Take) → IsSink (plan_numbers plan) k → Sound plan s
+    → Takes plan k s (Ok answer) u → Delivers plan k s (Ok answer) u → PutsToTakers plan s u
+puts_made plan k s u take.Ended sink sound takes delivers = λ name none. same_puts s u delivers name
+puts_made plan k s u (take.NotYet dur) sink sound takes delivers = λ name none. same_puts s u delivers name
+puts_made plan k s u (take.Took n) sink sound takes delivers = took_puts plan k n s u sink sound takes delivers
+
+pub puts_met : (plan : PlanText) (k : ℕ) (s u : VaultTold) (f : VaultFault) → Delivers plan k s (Err f) u
+    → PutsToNoOther plan (sink_failed (Some k) (of_vault f)) s u
+puts_met plan k s u (fault.Store count) delivers = λ name other. same_puts s u delivers name
+puts_met plan k s u (fault.Output count) delivers = λ name other. line_alone plan k s u (Err put.Failed) delivers name (other k refl)
+puts_met plan k s u (fault.Damaged v n) delivers = λ name other. same_puts s u delivers name
+puts_met plan k s u fault.Halted delivers = λ name other. same_puts s u delivers name
+puts_met plan k s u fault.Memory delivers = λ name other. ap (λ (f : List ℕ → Bool). f name) delivers.put_to

@@ -1,5 +1,5 @@
 -- What an act meets that isn't made, and what it leaves then.
-use Rattle.std.specs.Prelude.{◌≡◌, ℕ, true, Option, Some, None}
+use Rattle.std.specs.Prelude.{◌≡◌, ℕ, true, false, Option, Some, None}
 use Rattle.ss_acts.specs.Leaves.{Goes, Keeps}
 use Rattle.ss_acts.specs.Parts.{vertex_of}
 use Rattle.ss_acts.specs.Readings.{wanted_from, number_wanted, vault_reading}
@@ -58,11 +58,11 @@ pub record IsFull (plan : PlanText) (inst : InstState) (did : InstStep) (v reach
   pub is_reached : reached ≡ made_by (vertex_of plan inst.v) did.inst
   pub passed : has_passed plan.job.max_elements (vertex_of plan inst.v) did.inst ≡ true
 
--- a read from a tail, or from a list, is refused
+-- a read from a tail, or from a list, is refused; for want of memory only where the vertex stays within its limit
 abbrev pub RefusesRead : PlanText → InstState → InstStep → EngineFault → Type 0
 RefusesRead plan inst did (fault.Vault f) = ⊥
 RefusesRead plan inst did (fault.Full v reached) = IsFull plan inst did v reached
-RefusesRead plan inst did fault.Memory = Unit {0}
+RefusesRead plan inst did fault.Memory = has_passed plan.job.max_elements (vertex_of plan inst.v) did.inst ≡ false
 
 -- one from the vault is refused, or the vault meets a fault
 abbrev pub FailsToRead : PlanText → InstState → VaultTold → EngineFault → VaultTold → Type 0

@@ -40,8 +40,8 @@ pub fn act_flush<O: Outputs, D: Depot>(
 {
     act_facts(plan);
     let base = vault.base(v);
-    let (from, batch) = tail.batch(count);
-    match vault.flush(plan, v, from, batch) {
+    let batch = tail.batch(count);
+    match vault.flush(plan, v, batch.from, batch.first, batch.rest) {
         Ok(answer) => Ok(tell(tail, answer, base)),
         Err(fault) => Err(EngineFault::of_vault(fault)),
     }

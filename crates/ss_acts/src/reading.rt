@@ -1,13 +1,17 @@
-ghost use Rattle.std.specs.Prelude.{◌≡◌, is_ok, true};
+ghost use Rattle.std.specs.Prelude.{◌≡◌, ◌<◌, ◌≤◌, Some, is_ok, length, slice_get, true};
 ghost use Rattle.ss_acts.specs.Asked.{MayTake, TakesRead, Wants};
 ghost use Rattle.ss_acts.specs.Calls.{ReadsList, ReadsTail, ReadsVault};
 ghost use Rattle.ss_acts.specs.Leaves.{AsksVault};
 ghost use Rattle.ss_acts.specs.Parts.{IsReplicaOf, vertex_of};
 ghost use Rattle.ss_acts.specs.Readings.{IsReady, IsWantedTail};
 ghost use Rattle.ss_frames.specs.Plans.{plan_numbers};
+ghost use Rattle.ss_job.specs.JobText.{op_of};
+ghost use Rattle.ss_job.specs.declared.op.Op.TheVariants as op;
+ghost use Rattle.ss_plan.specs.Plan.{source_list};
 ghost use Rattle.ss_state.specs.Numbers.{IsOperator};
+ghost use Rattle.ss_vault.specs.Readers.{HasRow};
 ghost use Rattle.ss_vault.specs.Sound.{Sound};
-ghost use Rattle.ss_vault.specs.Told.{vault_told};
+ghost use Rattle.ss_vault.specs.Told.{durable_of, vault_told};
 ghost use Rattle.ss_vertex.specs.Standing.{InstStands};
 ghost use Rattle.ss_water.specs.declared.node.Kind.TheVariants.{Source};
 
@@ -15,6 +19,7 @@ use crate::asking::{Asked, accept, asks};
 use crate::facts::act_facts;
 use crate::fault::{EngineFault, ReadPart};
 use crate::kinds::stream_read;
+use ss_elem::Element;
 use ss_fail::Outcome;
 use ss_outside::{Depot, Outputs};
 use ss_plan::Plan;
@@ -122,8 +127,19 @@ pub fn act_read_source<O: Outputs, D: Depot>(
                 inst.crash();
                 return Ok(Outcome::Gone { input, n });
             }
-            let x = plan.source_at(v, n, mark);
+            let x = listed(plan, vault, v, n);
             accept(plan, inst, input, n, &x)
         }
     }
+}
+
+/// Element `n` of the list of source `v`, which still has it: the list is asked for none below the vault's mark.
+fn listed<O: Outputs, D: Depot>(plan: &Plan, vault: &Vault<O, D>, v: u32, n: u64) -> Element
+    requires row { HasRow (vault_told O.told D.told vault.now) v }
+    requires source { op_of plan.now.job v ≡ Some op.Source }
+    requires kept { (durable_of (vault_told O.told D.told vault.now) v).mark ≤ n }
+    requires within { n < length (source_list plan.now v) }
+    ensures { slice_get (source_list plan.now v) n ≡ Some result }
+{
+    plan.source_at(v, n, vault.mark(v))
 }

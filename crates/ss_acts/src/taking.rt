@@ -1,6 +1,6 @@
-ghost use Rattle.std.specs.Prelude.{◌≡◌, is_ok, true};
+ghost use Rattle.std.specs.Prelude.{◌≡◌, is_ok, true, Some};
 ghost use Rattle.ss_acts.specs.Calls.{TakesLine};
-ghost use Rattle.ss_acts.specs.Leaves.{AsksVault, PutsToSinksAlone};
+ghost use Rattle.ss_acts.specs.Leaves.{AsksVault, PutsBy};
 ghost use Rattle.ss_acts.specs.Told.{take_outcome};
 ghost use Rattle.ss_frames.specs.Plans.{plan_numbers};
 ghost use Rattle.ss_state.specs.Numbers.{IsSink};
@@ -26,8 +26,8 @@ pub fn act_take<O: Outputs, D: Depot>(
         result (vault_told O.told D.told vault.new) }
     ensures asks { AsksVault true (vault_told O.told D.told vault.old) (is_ok result)
         (vault_told O.told D.told vault.new) }
-    ensures outputs { PutsToSinksAlone plan.now
-        (vault_told O.told D.told vault.old) (vault_told O.told D.told vault.new) }
+    ensures outputs { PutsBy plan.now (Some k) (vault_told O.told D.told vault.old)
+        result (vault_told O.told D.told vault.new) }
 {
     match vault.take(plan, k) {
         Ok(take) => Ok(told(take)),

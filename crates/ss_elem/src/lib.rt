@@ -16,4 +16,5 @@ pub use key::{BadKey, Key};
 pub use key_order::key_order_is_text_order;
 pub use line_buf::{LineBuf, line};
 pub use out::Out;
+pub use std::alloc::AllocError as Memory;
 pub use validity::{NotNext, valid_next};

@@ -3,7 +3,7 @@ use Rattle.std.proofs.Common.{◌≡◌, ℕ, max, Bool, true, false, List, Opti
 use Rattle.std.specs.Prelude.{is_ok}
 use Rattle.ss_acts.specs.Calls.{Writes, Loads, Snaps, TakesLine, snapshot_loaded}
 use Rattle.ss_acts.specs.Faults.{Fails}
-use Rattle.ss_acts.specs.Leaves.{AsksVault, LeavesInst, LeavesTail, PutsToSinksAlone}
+use Rattle.ss_acts.specs.Leaves.{AsksVault, LeavesInst, LeavesTail, PutsBy}
 use Rattle.ss_acts.specs.Parts.{IsTailOf, IsReplicaOf, vertex_of}
 use Rattle.ss_acts.specs.Readings.{has_snapshot, must_fetch, must_keep, needs_snapshot}
 use Rattle.ss_acts.specs.declared.fault.EngineFault.{EngineFault}
@@ -31,7 +31,7 @@ use Rattle.ss_engine.specs.Laws.{ActLaws}
 use Rattle.ss_engine.specs.Joint.{Joint}
 use Rattle.ss_engine.specs.Told.{PlantTold, inst_of, state_of, tail_of}
 use Rattle.ss_engine.proofs.Causes.{fails_keeps, fails_is_cause}
-use Rattle.ss_engine.proofs.Made.{goes_on, keeps_all, not_called, puts_nothing}
+use Rattle.ss_engine.proofs.Made.{goes_on, keeps_all, not_called, puts_nothing, puts_to_none}
 use Rattle.ss_engine.proofs.Parts.{replace_tail, replace_inst, replace_vault, stands_at, inst_is, tail_is}
 use Rattle.ss_engine.proofs.Steps.{inst_made, both_made, both_met, replace_both, tail_made, vault_made, vault_met}
 
@@ -76,7 +76,7 @@ write_applies laws p v r old new rest (Err f) joint replica is stands tail left 
     (both_met laws p v r (act.Write v r) old new rest p.vault fault.Memory joint replica replica (λ end e. e) is
     (ap inst_numbers left.1) (ap (λ (t : TailHeld). t.numbers) left.2)
     (subst (λ (w : ℕ). IsReplicaOf p.plan w new) of_v stands) (subst (λ (w : ℕ). IsTailOf p.plan w rest) of_v tail)
-    joint.parts.vault refl (refl, goes_on p.vault) (not_called false p.vault) (puts_nothing p.plan p.vault p.vault refl))
+    joint.parts.vault refl (refl, λ quiet. refl, goes_on p.vault) (not_called false p.vault) (puts_to_none p.plan None p.vault p.vault refl))
 
 -- ---- load
 
@@ -125,8 +125,8 @@ load_applies laws p v r old new rest u (Err f) joint replica is stands tail soun
     (ap inst_numbers left.1) (ap (λ (t : TailHeld). t.numbers) left.2)
     (subst (λ (w : ℕ). IsReplicaOf p.plan w new) of_v stands) (subst (λ (w : ℕ). IsTailOf p.plan w rest) of_v tail)
     sound (fails_keeps (IsOfLook old.v (snapshot_loaded p.plan old (tail_of p v) p.vault)) p.plan p.vault u f left.0)
-    (fails_is_cause p (replace_both p v r new rest u) (act.Load v r) None f refl (load_fails p v old f u of_v left.0))
-    (load_asks p v r old false u is of_v asks) (puts_nothing p.plan p.vault u outputs)
+    (fails_is_cause p (replace_both p v r new rest u) (act.Load v r) None f refl (λ quiet. refl) (load_fails p v old f u of_v left.0))
+    (load_asks p v r old false u is of_v asks) (puts_to_none p.plan None p.vault u outputs)
 
 -- ---- lose
 
@@ -166,16 +166,16 @@ snap_applies laws p v r old u (Ok o) joint replica is sound left asks outputs =
 snap_applies laws p v r old u (Err f) joint replica is sound left asks outputs =
     let of_v : old.v ≡ v = (stands_at p v r old joint.parts is).vertex in
     vault_met laws p (act.Snap v r) u f joint replica (λ end e. e) sound (fails_keeps IsOfStore p.plan p.vault u f left)
-    (fails_is_cause p (replace_vault p u) (act.Snap v r) None f refl left) (snap_asks p v r old false u is of_v asks)
-    (puts_nothing p.plan p.vault u outputs)
+    (fails_is_cause p (replace_vault p u) (act.Snap v r) None f refl (λ quiet. refl) left) (snap_asks p v r old false u is of_v asks)
+    (puts_to_none p.plan None p.vault u outputs)
 
 pub take_applies : ActLaws → (p : PlantTold) (k : ℕ) (u : VaultTold) (result : Result Outcome EngineFault)
     → Joint p → IsSink (plan_numbers p.plan) k
-    → Sound p.plan u → TakesLine p.plan k p.vault result u → AsksVault true p.vault (is_ok result) u → PutsToSinksAlone p.plan p.vault u
+    → Sound p.plan u → TakesLine p.plan k p.vault result u → AsksVault true p.vault (is_ok result) u → PutsBy p.plan (Some k) p.vault result u
     → AppliesJointly p (act.Take k) result (replace_vault p u)
 take_applies laws p k u (Ok o) joint sink sound left asks outputs =
     vault_made laws p (act.Take k) u o (take_act (plan_numbers p.plan) k (state_of p).vault) joint sink refl refl left.0 sound left.1 asks outputs
 take_applies laws p k u (Err f) joint sink sound left asks outputs =
     let Can : VaultFault → Type 0 = IsOfPut (input (vertex (plan_numbers p.plan) k) 0) (durable_of p.vault k).taken in
     vault_met laws p (act.Take k) u f joint sink (λ end e. e) sound (fails_keeps Can p.plan p.vault u f left)
-    (fails_is_cause p (replace_vault p u) (act.Take k) None f refl left) asks outputs
+    (fails_is_cause p (replace_vault p u) (act.Take k) None f refl (λ quiet. refl) left) asks outputs

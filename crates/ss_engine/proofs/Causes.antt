@@ -9,7 +9,7 @@ use Rattle.ss_state.specs.declared.entry.Entry.{Entry}
 use Rattle.ss_vault.specs.Told.{VaultTold, numbers_of}
 use Rattle.ss_vault.specs.declared.fault.VaultFault.{VaultFault}
 use Rattle.ss_vault.specs.declared.fault.VaultFault.TheVariants as vault
-use Rattle.ss_engine.specs.Applies.{CanMeet, IsCause, takes_memory}
+use Rattle.ss_engine.specs.Applies.{CanMeet, IsCause, IsNotFull, takes_memory}
 use Rattle.ss_engine.specs.Told.{PlantTold}
 
 -- where no entry was made, the numbers are as they were
@@ -24,8 +24,8 @@ fails_keeps Can plan s u (fault.Full v reached) h = absurd h
 fails_keeps Can plan s u fault.Memory h = h.numbers
 
 -- and such a fault is a cause
-pub fails_is_cause : (p q : PlantTold) (a : Act) (entry : Option Entry) (f : EngineFault) → takes_memory a ≡ true
+pub fails_is_cause : (p q : PlantTold) (a : Act) (entry : Option Entry) (f : EngineFault) → takes_memory a ≡ true → IsNotFull p a
     → Fails (CanMeet p a) p.plan p.vault entry f q.vault → IsCause p a q f
-fails_is_cause p q a entry (fault.Vault f) memory h = (entry, h)
-fails_is_cause p q a entry (fault.Full v reached) memory h = absurd h
-fails_is_cause p q a entry fault.Memory memory h = (memory, h.goes)
+fails_is_cause p q a entry (fault.Vault f) memory fits h = (entry, h)
+fails_is_cause p q a entry (fault.Full v reached) memory fits h = absurd h
+fails_is_cause p q a entry fault.Memory memory fits h = (memory, fits, h.goes)

@@ -1,7 +1,7 @@
 -- An act that was made, or that met a fault, leaves a joint job.
-use Rattle.std.proofs.Common.{◌≡◌, Bool, true, false, Ok, Err, ap, ◌∙◌, sym, subst, refl, le_refl}
+use Rattle.std.proofs.Common.{◌≡◌, ℕ, Bool, true, false, Option, Ok, Err, ap, ◌∙◌, sym, subst, refl, le_refl}
 use Rattle.std.proofs.lemmas.Bool.{false≢true}
-use Rattle.ss_acts.specs.Leaves.{AsksVault, Goes, Keeps, PutsToSinksAlone}
+use Rattle.ss_acts.specs.Leaves.{AsksVault, Goes, Keeps, PutsBy, PutsToNoOther, PutsToTakers, sink_failed}
 use Rattle.ss_acts.specs.declared.fault.EngineFault.{EngineFault}
 use Rattle.ss_fail.specs.declared.act.Act.{Act}
 use Rattle.ss_fail.specs.declared.act.Act.TheVariants as act
@@ -11,19 +11,19 @@ use Rattle.ss_outside.specs.Told.{OutputsTold}
 use Rattle.ss_plan.specs.Plan.{PlanText}
 use Rattle.ss_state.specs.Acts.{pass_act}
 use Rattle.ss_state.specs.Joint as of_numbers
-use Rattle.ss_state.specs.Laws.{IsPassed}
+use Rattle.ss_state.specs.Laws.{Grows, IsPassed}
 use Rattle.ss_state.specs.Numbers.{JobNumbers}
 use Rattle.ss_state.specs.State.{VaultNumbers, row_at}
 use Rattle.ss_state.specs.Step.{Step, step, is_full, Left, MayAct}
 use Rattle.ss_vault.specs.Calls.{HasCollected, HasWhatIsNeeded}
 use Rattle.ss_vault.specs.Told.{VaultTold, numbers_of}
-use Rattle.ss_engine.specs.Applies.{AppliesJointly, IsCause, calls_vault, kind_of}
+use Rattle.ss_engine.specs.Applies.{AppliesJointly, IsCause, calls_vault, kind_of, sink_of}
 use Rattle.ss_engine.specs.Laws.{ActLaws}
 use Rattle.ss_engine.specs.Joint.{PartsStand, Joint}
 use Rattle.ss_engine.specs.Told.{PlantTold, state_of}
 
 -- nothing that is needed is gone of a job that is joint
-has_needed : ActLaws → (q : PlantTold) → of_numbers.Joint (plan_numbers q.plan) (state_of q) → HasWhatIsNeeded q.plan q.vault
+pub has_needed : ActLaws → (q : PlantTold) → of_numbers.Joint (plan_numbers q.plan) (state_of q) → HasWhatIsNeeded q.plan q.vault
 has_needed laws q joint =
     let job : JobNumbers = plan_numbers q.plan in
     let vault : VaultNumbers = numbers_of q.vault in
@@ -54,7 +54,7 @@ has_collected laws p q a o joint whole did =
 pub made : ActLaws → (p q : PlantTold) (a : Act) (o : Outcome) → Joint p → MayAct (plan_numbers p.plan) a
     → is_full (plan_numbers p.plan) (state_of p) a ≡ false → PartsStand q → q.plan ≡ p.plan
     → step (plan_numbers p.plan) (state_of p) a ≡ record { state = state_of q; outcome = o }
-    → Goes p.vault q.vault → AsksVault (calls_vault p a) p.vault true q.vault → PutsToSinksAlone p.plan p.vault q.vault
+    → Goes p.vault q.vault → AsksVault (calls_vault p a) p.vault true q.vault → PutsToTakers p.plan p.vault q.vault
     → AppliesJointly p a (Ok o) q
 made laws p q a o joint may within parts plan did goes asks outputs =
     let same : of_numbers.Joint (plan_numbers p.plan) (state_of q) =
@@ -66,7 +66,14 @@ made laws p q a o joint may within parts plan did goes asks outputs =
         parts = parts;
         numbers = there;
       };
-      applies = record { plan = plan; step = did; within = within; goes = goes };
+      applies = record {
+        plan = plan;
+        step = did;
+        within = within;
+        goes = goes;
+        grows = subst (λ (s : Step). Grows (plan_numbers p.plan) (numbers_of p.vault).ledger s.state.vault.ledger) did
+            (laws.falls (plan_numbers p.plan) (state_of p) a may joint.numbers);
+      };
       vault = asks;
       outputs = outputs;
       needed = has_needed laws q there;
@@ -75,7 +82,8 @@ made laws p q a o joint may within parts plan did goes asks outputs =
 
 pub met : ActLaws → (p q : PlantTold) (a : Act) (f : EngineFault) → Joint p → MayAct (plan_numbers p.plan) a
     → PartsStand q → q.plan ≡ p.plan → Left (plan_numbers p.plan) (state_of p) a (kind_of f) (state_of q)
-    → IsCause p a q f → AsksVault (calls_vault p a) p.vault false q.vault → PutsToSinksAlone p.plan p.vault q.vault
+    → IsCause p a q f → AsksVault (calls_vault p a) p.vault false q.vault
+    → PutsToNoOther p.plan (sink_failed (sink_of a) f) p.vault q.vault
     → AppliesJointly p a (Err f) q
 met laws p q a f joint may parts plan left cause asks outputs =
     let same : of_numbers.Joint (plan_numbers p.plan) (state_of q) =
@@ -110,5 +118,8 @@ pub not_called : (made : Bool) (s : VaultTold) → AsksVault false s made s
 not_called made s = record { untouched = λ no. refl; going = λ due yes. absurd (false≢true due) }
 
 -- outputs that are as they were
-pub puts_nothing : (plan : PlanText) (s u : VaultTold) → u.outputs ≡ s.outputs → PutsToSinksAlone plan s u
-puts_nothing plan s u e name other = ap (λ (o : OutputsTold). o.put_to name) e
+pub puts_nothing : (plan : PlanText) (s u : VaultTold) → u.outputs ≡ s.outputs → PutsToTakers plan s u
+puts_nothing plan s u e name none = ap (λ (o : OutputsTold). o.put_to name) e
+
+pub puts_to_none : (plan : PlanText) (sink : Option ℕ) (s u : VaultTold) → u.outputs ≡ s.outputs → PutsToNoOther plan sink s u
+puts_to_none plan sink s u e name other = ap (λ (o : OutputsTold). o.put_to name) e

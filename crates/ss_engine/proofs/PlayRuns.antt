@@ -1,19 +1,20 @@
 -- A list of acts, and one act more.
 use Rattle.std.proofs.Common.{◌≡◌, ◌∙◌, ℕ, Bool, true, false, ◌+◌, ◌<◌, List, [], ◌∷◌, ◌++◌, length, get_or, take, drop, map, refl, sym, ap, subst, arith, append_assoc}
 use Rattle.std.proofs.lemmas.List.{append-nil, drop_more, map-append, take-append-drop, take_more}
-use Rattle.ss_acts.specs.Leaves.{Goes, PutsToSinksAlone}
+use Rattle.ss_acts.specs.Leaves.{Goes, PutsToTakers}
 use Rattle.ss_acts.specs.declared.fault.EngineFault.{EngineFault}
 use Rattle.ss_fail.specs.declared.act.Act.{Act}
 use Rattle.ss_fail.specs.declared.outcome.Outcome.{Outcome}
 use Rattle.ss_frames.specs.Plans.{plan_numbers}
 use Rattle.ss_plan.specs.Plan.{PlanText}
 use Rattle.ss_state.specs.Numbers.{JobNumbers}
-use Rattle.ss_state.specs.State.{State}
-use Rattle.ss_state.specs.Step.{Made, Ran, Run, Step, run, step}
-use Rattle.ss_vault.specs.Told.{VaultTold}
+use Rattle.ss_state.specs.Laws.{Grows}
+use Rattle.ss_state.specs.State.{Ledger, State}
+use Rattle.ss_state.specs.Step.{Made, Ran, Run, Step, is_full, run, step}
+use Rattle.ss_vault.specs.Told.{VaultTold, numbers_of}
 use Rattle.ss_engine.specs.Applies.{Makes}
 use Rattle.ss_engine.specs.Joint.{Joint}
-use Rattle.ss_engine.specs.Plays.{PlaysAll, PlaysUpTo, Runs, TraceTold, acts_of, with_made}
+use Rattle.ss_engine.specs.Plays.{NoneIsFull, PlaysAll, PlaysUpTo, Runs, TraceTold, acts_of, with_made}
 use Rattle.ss_engine.specs.PlaysOne.{MakesOne, StopsAtOne}
 use Rattle.ss_engine.specs.Told.{PlantTold, state_of}
 
@@ -61,22 +62,61 @@ goes_on s t u first second = record {
   counts = record { faults = omega arith; output_faults = omega arith; shorts = omega arith };
 }
 
-puts_on : (plan : PlanText) (s t u : VaultTold) → PutsToSinksAlone plan s t → PutsToSinksAlone plan t u → PutsToSinksAlone plan s u
-puts_on plan s t u first second = λ name h. second name h ∙ first name h
+-- where a sink took nothing over two parts, it took nothing in either, since what it took never falls
+puts_on : (plan : PlanText) (s t u : VaultTold) → Grows (plan_numbers plan) (numbers_of s).ledger (numbers_of t).ledger
+    → Grows (plan_numbers plan) (numbers_of t).ledger (numbers_of u).ledger
+    → PutsToTakers plan s t → PutsToTakers plan t u → PutsToTakers plan s u
+puts_on plan s t u g h first second name none =
+    second name (λ k file. let whole = none k file in let low = g.taken k in let high = h.taken k in omega (arith, whole, low, high))
+    ∙ first name (λ k file. let whole = none k file in let low = g.taken k in let high = h.taken k in omega (arith, whole, low, high))
+
+grows_same : (job : JobNumbers) (l : Ledger) → Grows job l l
+grows_same job l = record { dur = λ v. omega arith; taken = λ v. omega arith; base = λ v. omega arith; low = λ v. omega arith }
+
+grows_on : (job : JobNumbers) (l m n : Ledger) → Grows job l m → Grows job m n → Grows job l n
+grows_on job l m n g h = record {
+  dur = λ v. let one = g.dur v in let two = h.dur v in omega (arith, one, two);
+  taken = λ v. let one = g.taken v in let two = h.taken v in omega (arith, one, two);
+  base = λ v. let one = g.base v in let two = h.base v in omega (arith, one, two);
+  low = λ v. let one = g.low v in let two = h.low v in omega (arith, one, two);
+}
+
+-- one act more isn't full, behind others of which none was
+none_more : (job : JobNumbers) (s : State) (acts : List Act) (a : Act) → NoneIsFull job s acts → is_full job (run job s acts).state a ≡ false
+    → NoneIsFull job s (acts ++ a ∷ [])
+none_more job s [] a none within = (within, tt)
+none_more job s (b ∷ acts) a none within = (none.0, none_more job (step job s b).state acts a none.1 within)
 
 runs_none : (p : PlantTold) → Runs p [] p
-runs_none p = record { plan = refl; run = refl; goes = goes_same p.vault; outputs = λ name h. refl }
-
-runs_more : (p q r : PlantTold) (made : List Made) (a : Act) (o : Outcome) → Runs p made q → Makes q a r o → PutsToSinksAlone q.plan q.vault r.vault
-    → Runs p (made ++ made_so a o ∷ []) r
-runs_more p q r made a o runs makes puts = record {
-  plan = makes.plan ∙ runs.plan;
-  run = run_made (plan_numbers p.plan) (state_of p) (state_of q) (state_of r) made a o runs.run
-      (subst (λ (plan : PlanText). step (plan_numbers plan) (state_of q) a ≡ record { state = state_of r; outcome = o }) runs.plan makes.step);
-  goes = goes_on p.vault q.vault r.vault runs.goes makes.goes;
-  outputs = puts_on p.plan p.vault q.vault r.vault runs.outputs
-      (subst (λ (plan : PlanText). PutsToSinksAlone plan q.vault r.vault) runs.plan puts);
+runs_none p = record {
+  plan = refl;
+  run = refl;
+  within = tt;
+  goes = goes_same p.vault;
+  grows = grows_same (plan_numbers p.plan) (numbers_of p.vault).ledger;
+  outputs = λ name none. refl;
 }
+
+runs_more : (p q r : PlantTold) (made : List Made) (a : Act) (o : Outcome) → Runs p made q → Makes q a r o → PutsToTakers q.plan q.vault r.vault
+    → Runs p (made ++ made_so a o ∷ []) r
+runs_more p q r made a o runs makes puts =
+    let job : JobNumbers = plan_numbers p.plan in
+    let grows : Grows job (numbers_of q.vault).ledger (numbers_of r.vault).ledger =
+    subst (λ (plan : PlanText). Grows (plan_numbers plan) (numbers_of q.vault).ledger (numbers_of r.vault).ledger) runs.plan makes.grows in
+    let within : is_full job (state_of q) a ≡ false =
+    subst (λ (plan : PlanText). is_full (plan_numbers plan) (state_of q) a ≡ false) runs.plan makes.within in
+    let there : (run job (state_of p) (acts_of made)).state ≡ state_of q = ap (λ (ran : Ran). ran.state) runs.run in
+    record {
+      plan = makes.plan ∙ runs.plan;
+      run = run_made job (state_of p) (state_of q) (state_of r) made a o runs.run
+          (subst (λ (plan : PlanText). step (plan_numbers plan) (state_of q) a ≡ record { state = state_of r; outcome = o }) runs.plan makes.step);
+      within = subst (NoneIsFull job (state_of p)) (sym (map-append (λ (m : Made). m.act) made (made_so a o ∷ [])))
+          (none_more job (state_of p) (acts_of made) a runs.within (subst (λ (s : State). is_full job s a ≡ false) (sym there) within));
+      goes = goes_on p.vault q.vault r.vault runs.goes makes.goes;
+      grows = grows_on job (numbers_of p.vault).ledger (numbers_of q.vault).ledger (numbers_of r.vault).ledger runs.grows grows;
+      outputs = puts_on p.plan p.vault q.vault r.vault runs.grows grows runs.outputs
+          (subst (λ (plan : PlanText). PutsToTakers plan q.vault r.vault) runs.plan puts);
+    }
 
 abbrev told_so : Bool → List Made → TraceTold
 told_so keeps made = record { keeps = keeps; made = made }
@@ -125,8 +165,7 @@ plays_up_to p q r acts rest a before mid after f plays joint one = record {
   runs = plays.runs;
   joint = joint;
   stops = one.stops;
-  outputs = puts_on p.plan p.vault q.vault r.vault plays.runs.outputs
-      (subst (λ (plan : PlanText). PutsToSinksAlone plan q.vault r.vault) plays.runs.plan one.outputs);
+  outputs = one.outputs;
 }
 
 -- the same at a place of a list of acts

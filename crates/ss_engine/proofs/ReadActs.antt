@@ -1,10 +1,11 @@
 -- Reads: what their functions say of the parts, said of the job.
 use Rattle.std.proofs.Common.{◌≡◌, ℕ, ◌&&◌, Bool, true, false, Option, Some, None, Result, Ok, Err, ap, ◌∙◌, sym, subst, refl, le-ltb, if◌then◌else◌}
+use Rattle.std.proofs.lemmas.Bool.{false≢true}
 use Rattle.std.specs.Prelude.{option_map, IfSome, is_ok}
 use Rattle.ss_acts.specs.Calls.{ReadsTail, ReadsVault, ReadsList}
 use Rattle.ss_acts.specs.Facts.{ActFacts}
 use Rattle.ss_acts.specs.Faults.{Fails, IsFull, RefusesRead, FailsToRead, made_by}
-use Rattle.ss_acts.specs.Leaves.{AsksVault, LeavesInst, Keeps, PutsToSinksAlone}
+use Rattle.ss_acts.specs.Leaves.{AsksVault, LeavesInst, Keeps, PutsToTakers}
 use Rattle.ss_acts.specs.Parts.{IsReplicaOf, vertex_of}
 use Rattle.ss_acts.specs.Readings.{IsReady, wanted_from, number_wanted, tail_reading, must_ask, vault_reading, list_reading}
 use Rattle.ss_acts.specs.declared.fault.EngineFault.{EngineFault}
@@ -31,7 +32,7 @@ use Rattle.ss_engine.specs.Laws.{ActLaws}
 use Rattle.ss_engine.specs.Joint.{Joint}
 use Rattle.ss_engine.specs.Told.{PlantTold, inst_of, state_of, tail_of}
 use Rattle.ss_engine.proofs.Causes.{fails_keeps}
-use Rattle.ss_engine.proofs.Made.{goes_on, keeps_all, not_called, puts_nothing}
+use Rattle.ss_engine.proofs.Made.{goes_on, keeps_all, not_called, puts_nothing, puts_to_none}
 use Rattle.ss_engine.proofs.Parts.{replace_inst, replace_vault, stands_at, inst_is, tail_is}
 use Rattle.ss_engine.proofs.Picking.{chosen, asks_alike, tail_answers, vault_answers}
 use Rattle.ss_engine.proofs.Steps.{inst_made, inst_met}
@@ -142,7 +143,7 @@ pub read_made : ActLaws → (p : PlantTold) (v r : ℕ) (old new : InstState) (u
     → ActFacts p.plan → Joint p → IsReplica (plan_numbers p.plan) v r → old.v ≡ v
     → read_at (plan_numbers p.plan) (state_of p) v r ≡ did → LeavesInst did new o
     → IsReplicaOf p.plan old.v new → Sound p.plan u → Keeps p.vault u → AsksVault (calls_vault p (act.Read v r)) p.vault true u
-    → PutsToSinksAlone p.plan p.vault u
+    → PutsToTakers p.plan p.vault u
     → AppliesJointly p (act.Read v r) (Ok o) (replace_vault (replace_inst p v r new) u)
 read_made laws p v r old new u o did facts joint replica of_v is left stands sound keeps asks outputs =
     let job : JobNumbers = plan_numbers p.plan in
@@ -165,6 +166,17 @@ full_at p v r old did w reached facts of_v is full =
           ∙ ap (λ (most : ℕ). has_passed most (vertex job old.v) did.inst) facts.of_plan.most ∙ full.passed,
     )
 
+-- a vertex that stays within the limit
+not_full_at : (p : PlantTold) (v r : ℕ) (old : InstState) (did : InstStep) → old.v ≡ v
+    → read_at (plan_numbers p.plan) (state_of p) v r ≡ did → ActFacts p.plan
+    → has_passed p.plan.job.max_elements (vertex_of p.plan old.v) did.inst ≡ false
+    → is_full (plan_numbers p.plan) (state_of p) (act.Read v r) ≡ false
+not_full_at p v r old did of_v is facts within =
+    let job : JobNumbers = plan_numbers p.plan in
+    ap (λ (d : InstStep). has_passed job.max_elements (vertex job v) d.inst) is
+        ∙ ap (λ (i : ℕ). has_passed job.max_elements (vertex job i) did.inst) (sym of_v)
+        ∙ ap (λ (most : ℕ). has_passed most (vertex job old.v) did.inst) facts.of_plan.most ∙ within
+
 pub read_refused : ActLaws → (p : PlantTold) (v r : ℕ) (old new : InstState) (did : InstStep) (f : EngineFault)
     → ActFacts p.plan → Joint p → IsReplica (plan_numbers p.plan) v r → inst_of p v r ≡ Some old → old.v ≡ v
     → read_at (plan_numbers p.plan) (state_of p) v r ≡ did → RefusesRead p.plan old did f → new ≡ old → IsReplicaOf p.plan old.v new
@@ -175,12 +187,13 @@ read_refused laws p v r old new did (fault.Full w reached) facts joint replica i
     inst_met laws p v r (act.Read v r) old new p.vault (fault.Full w reached) joint replica replica (λ end e. e) is (ap inst_numbers same)
     (subst (λ (i : ℕ). IsReplicaOf p.plan i new) of_v stands) joint.parts.vault refl
     (full_at p v r old did w reached facts of_v reads refused, keeps_all p.vault)
-    (subst (λ (b : Bool). AsksVault b p.vault false p.vault) (sym calls) (not_called false p.vault)) (puts_nothing p.plan p.vault p.vault refl)
+    (subst (λ (b : Bool). AsksVault b p.vault false p.vault) (sym calls) (not_called false p.vault)) (puts_to_none p.plan None p.vault p.vault refl)
 read_refused laws p v r old new did fault.Memory facts joint replica is of_v reads refused same stands calls =
     inst_met laws p v r (act.Read v r) old new p.vault fault.Memory joint replica replica (λ end e. e) is (ap inst_numbers same)
     (subst (λ (i : ℕ). IsReplicaOf p.plan i new) of_v stands) joint.parts.vault refl
-    (refl, goes_on p.vault) (subst (λ (b : Bool). AsksVault b p.vault false p.vault) (sym calls) (not_called false p.vault))
-    (puts_nothing p.plan p.vault p.vault refl)
+    (refl, λ quiet. not_full_at p v r old did of_v reads facts refused, goes_on p.vault)
+    (subst (λ (b : Bool). AsksVault b p.vault false p.vault) (sym calls) (not_called false p.vault))
+    (puts_to_none p.plan None p.vault p.vault refl)
 
 -- what is stored was asked in vain
 look_fails : (p : PlantTold) (v r : ℕ) (old : InstState) (f : EngineFault) (u : VaultTold) → inst_of p v r ≡ Some old → old.v ≡ v
@@ -195,21 +208,23 @@ pub read_failed : ActLaws → (p : PlantTold) (v r : ℕ) (old new : InstState) 
     → ActFacts p.plan → Joint p → IsReplica (plan_numbers p.plan) v r → inst_of p v r ≡ Some old → old.v ≡ v
     → read_at (plan_numbers p.plan) (state_of p) v r ≡ vault_reading p.plan old p.vault
     → FailsToRead p.plan old p.vault f u → new ≡ old → IsReplicaOf p.plan old.v new → Sound p.plan u
+    → calls_vault p (act.Read v r) ≡ true
     → AsksVault (calls_vault p (act.Read v r)) p.vault false u → u.outputs ≡ p.vault.outputs
     → AppliesJointly p (act.Read v r) (Err f) (replace_vault (replace_inst p v r new) u)
-read_failed laws p v r old new u (fault.Vault f) facts joint replica is of_v reads failed same stands sound asks outputs =
+read_failed laws p v r old new u (fault.Vault f) facts joint replica is of_v reads failed same stands sound calls asks outputs =
     let Can : VaultFault → Type 0 = IsOfLook (wanted_from p.plan old) (number_wanted (vertex_of p.plan old.v) (inst_numbers old)) in
     inst_met laws p v r (act.Read v r) old new u (fault.Vault f) joint replica replica (λ end e. e) is (ap inst_numbers same)
     (subst (λ (i : ℕ). IsReplicaOf p.plan i new) of_v stands) sound (fails_keeps Can p.plan p.vault u (fault.Vault f) failed)
-    (None, look_fails p v r old (fault.Vault f) u is of_v failed) asks (puts_nothing p.plan p.vault u outputs)
-read_failed laws p v r old new u (fault.Full w reached) facts joint replica is of_v reads failed same stands sound asks outputs =
+    (None, look_fails p v r old (fault.Vault f) u is of_v failed) asks (puts_to_none p.plan None p.vault u outputs)
+read_failed laws p v r old new u (fault.Full w reached) facts joint replica is of_v reads failed same stands sound calls asks outputs =
     inst_met laws p v r (act.Read v r) old new u (fault.Full w reached) joint replica replica (λ end e. e) is (ap inst_numbers same)
     (subst (λ (i : ℕ). IsReplicaOf p.plan i new) of_v stands) sound failed.1.numbers
     (full_at p v r old (vault_reading p.plan old p.vault) w reached facts of_v reads failed.0, failed.1)
-    asks (puts_nothing p.plan p.vault u outputs)
-read_failed laws p v r old new u fault.Memory facts joint replica is of_v reads failed same stands sound asks outputs =
+    asks (puts_to_none p.plan None p.vault u outputs)
+read_failed laws p v r old new u fault.Memory facts joint replica is of_v reads failed same stands sound calls asks outputs =
     inst_met laws p v r (act.Read v r) old new u fault.Memory joint replica replica (λ end e. e) is (ap inst_numbers same)
-    (subst (λ (i : ℕ). IsReplicaOf p.plan i new) of_v stands) sound failed.numbers (refl, failed.goes) asks (puts_nothing p.plan p.vault u outputs)
+    (subst (λ (i : ℕ). IsReplicaOf p.plan i new) of_v stands) sound failed.numbers
+    (refl, λ quiet. absurd (false≢true (sym quiet ∙ calls)), failed.goes) asks (puts_to_none p.plan None p.vault u outputs)
 
 -- ---- what each function says
 
@@ -268,5 +283,5 @@ kept_applies laws p v r u old new after (Ok o) facts joint replica is operator w
 kept_applies laws p v r u old new after (Err f) facts joint replica is operator wanted asked stands sound left asks outputs =
     let of_v : old.v ≡ v = (stands_at p v r old joint.parts is).vertex in
     read_failed laws p v r old new after f facts joint replica is of_v (reads_vault p v r u old is of_v operator wanted asked)
-    left.0 left.1 stands sound
+    left.0 left.1 stands sound (input_asks p v r u old is of_v operator wanted ∙ asked)
     (subst (λ (b : Bool). AsksVault b p.vault false after) (sym (input_asks p v r u old is of_v operator wanted ∙ asked)) asks) outputs

@@ -1,6 +1,6 @@
 -- An act by the parts that it touches: what it left of them is what it leaves of the job.
 use Rattle.std.proofs.Common.{◌≡◌, ℕ, true, false, Some, Ok, Err, ap, ◌∙◌, sym, subst, refl}
-use Rattle.ss_acts.specs.Leaves.{AsksVault, Goes, Keeps, PutsToSinksAlone}
+use Rattle.ss_acts.specs.Leaves.{AsksVault, Goes, Keeps, PutsToNoOther, PutsToTakers, sink_failed}
 use Rattle.ss_acts.specs.Parts.{IsTailOf, IsReplicaOf}
 use Rattle.ss_acts.specs.declared.fault.EngineFault.{EngineFault}
 use Rattle.ss_fail.specs.declared.act.Act.{Act}
@@ -14,7 +14,7 @@ use Rattle.ss_tail.specs.Held.{TailHeld}
 use Rattle.ss_vault.specs.Sound.{Sound}
 use Rattle.ss_vault.specs.Told.{VaultTold, numbers_of}
 use Rattle.ss_vertex.specs.Inst.{InstState, inst_numbers}
-use Rattle.ss_engine.specs.Applies.{AppliesJointly, IsCause, calls_vault, kind_of}
+use Rattle.ss_engine.specs.Applies.{AppliesJointly, IsCause, calls_vault, kind_of, sink_of}
 use Rattle.ss_engine.specs.Laws.{ActLaws}
 use Rattle.ss_engine.specs.Joint.{PartsStand, Joint}
 use Rattle.ss_engine.specs.Told.{PlantTold, inst_of, state_of, tail_of}
@@ -31,7 +31,7 @@ pub inst_made : ActLaws → (p : PlantTold) (v r : ℕ) (a : Act) (new : InstSta
     → step (plan_numbers p.plan) (state_of p) a ≡ with_inst (state_of p) v r did
     → did ≡ record { inst = inst_numbers new; outcome = o }
     → IsReplicaOf p.plan v new → Sound p.plan u → Keeps p.vault u → AsksVault (calls_vault p a) p.vault true u
-    → PutsToSinksAlone p.plan p.vault u
+    → PutsToTakers p.plan p.vault u
     → AppliesJointly p a (Ok o) (replace_vault (replace_inst p v r new) u)
 inst_made laws p v r a new u o did joint replica may within is left stands sound keeps asks outputs =
     let q : PlantTold = replace_vault (replace_inst p v r new) u in
@@ -47,7 +47,8 @@ pub inst_met : ActLaws → (p : PlantTold) (v r : ℕ) (a : Act) (old new : Inst
     → ((end : State) → end ≡ state_of p → Left (plan_numbers p.plan) (state_of p) a (kind_of f) end)
     → inst_of p v r ≡ Some old → inst_numbers new ≡ inst_numbers old
     → IsReplicaOf p.plan v new → Sound p.plan u → numbers_of u ≡ numbers_of p.vault
-    → IsCause p a (replace_vault (replace_inst p v r new) u) f → AsksVault (calls_vault p a) p.vault false u → PutsToSinksAlone p.plan p.vault u
+    → IsCause p a (replace_vault (replace_inst p v r new) u) f → AsksVault (calls_vault p a) p.vault false u
+    → PutsToNoOther p.plan (sink_failed (sink_of a) f) p.vault u
     → AppliesJointly p a (Err f) (replace_vault (replace_inst p v r new) u)
 inst_met laws p v r a old new u f joint replica may left is same stands sound kept cause asks outputs =
     let q : PlantTold = replace_vault (replace_inst p v r new) u in
@@ -75,7 +76,7 @@ pub both_made : ActLaws → (p : PlantTold) (v r : ℕ) (a : Act) (new : InstSta
     → step (plan_numbers p.plan) (state_of p) a ≡ with_inst_and_tail (state_of p) v r did
     → did ≡ record { inst = inst_numbers new; tail = rest.numbers; outcome = o }
     → IsReplicaOf p.plan v new → IsTailOf p.plan v rest → Sound p.plan u → Keeps p.vault u → AsksVault (calls_vault p a) p.vault true u
-    → PutsToSinksAlone p.plan p.vault u
+    → PutsToTakers p.plan p.vault u
     → AppliesJointly p a (Ok o) (replace_both p v r new rest u)
 both_made laws p v r a new rest u o did joint replica may within is left stands tail sound keeps asks outputs =
     let q : PlantTold = replace_both p v r new rest u in
@@ -90,7 +91,8 @@ pub both_met : ActLaws → (p : PlantTold) (v r : ℕ) (a : Act) (old new : Inst
     → ((end : State) → end ≡ state_of p → Left (plan_numbers p.plan) (state_of p) a (kind_of f) end)
     → inst_of p v r ≡ Some old → inst_numbers new ≡ inst_numbers old → rest.numbers ≡ (tail_of p v).numbers
     → IsReplicaOf p.plan v new → IsTailOf p.plan v rest → Sound p.plan u → numbers_of u ≡ numbers_of p.vault
-    → IsCause p a (replace_both p v r new rest u) f → AsksVault (calls_vault p a) p.vault false u → PutsToSinksAlone p.plan p.vault u
+    → IsCause p a (replace_both p v r new rest u) f → AsksVault (calls_vault p a) p.vault false u
+    → PutsToNoOther p.plan (sink_failed (sink_of a) f) p.vault u
     → AppliesJointly p a (Err f) (replace_both p v r new rest u)
 both_met laws p v r a old new rest u f joint replica may left is same same_tail stands tail sound kept cause asks outputs =
     let q : PlantTold = replace_both p v r new rest u in
@@ -120,7 +122,7 @@ pub tail_and_vault_made : ActLaws → (p : PlantTold) (v : ℕ) (a : Act) (rest 
     → step (plan_numbers p.plan) (state_of p) a ≡ with_tail_and_vault (state_of p) v did
     → did ≡ record { tail = rest.numbers; vault = numbers_of u; outcome = o }
     → IsTailOf p.plan v rest → Sound p.plan u → Goes p.vault u → AsksVault (calls_vault p a) p.vault true u
-    → PutsToSinksAlone p.plan p.vault u
+    → PutsToTakers p.plan p.vault u
     → AppliesJointly p a (Ok o) (replace_tail_and_vault p v rest u)
 tail_and_vault_made laws p v a rest u o did joint stream may within is left tail sound goes asks outputs =
     let parts : PartsStand (replace_tail p v rest) = parts_with_tail p v rest joint.parts (has_tail p v joint stream.0) tail in
@@ -133,7 +135,8 @@ pub tail_and_vault_met : ActLaws → (p : PlantTold) (v : ℕ) (a : Act) (rest :
     → Joint p → IsStream (plan_numbers p.plan) v → MayAct (plan_numbers p.plan) a
     → Left (plan_numbers p.plan) (state_of p) a (kind_of f) (record (state_of p) { vault = numbers_of u })
     → rest.numbers ≡ (tail_of p v).numbers → IsTailOf p.plan v rest → Sound p.plan u
-    → IsCause p a (replace_tail_and_vault p v rest u) f → AsksVault (calls_vault p a) p.vault false u → PutsToSinksAlone p.plan p.vault u
+    → IsCause p a (replace_tail_and_vault p v rest u) f → AsksVault (calls_vault p a) p.vault false u
+    → PutsToNoOther p.plan (sink_failed (sink_of a) f) p.vault u
     → AppliesJointly p a (Err f) (replace_tail_and_vault p v rest u)
 tail_and_vault_met laws p v a rest u f joint stream may left same tail sound cause asks outputs =
     let parts : PartsStand (replace_tail p v rest) = parts_with_tail p v rest joint.parts (has_tail p v joint stream.0) tail in
@@ -148,7 +151,7 @@ pub vault_made : ActLaws → (p : PlantTold) (a : Act) (u : VaultTold) (o : Outc
     → Joint p → MayAct (plan_numbers p.plan) a → is_full (plan_numbers p.plan) (state_of p) a ≡ false
     → step (plan_numbers p.plan) (state_of p) a ≡ with_vault (state_of p) did
     → did ≡ record { vault = numbers_of u; outcome = o } → Sound p.plan u → Goes p.vault u → AsksVault (calls_vault p a) p.vault true u
-    → PutsToSinksAlone p.plan p.vault u
+    → PutsToTakers p.plan p.vault u
     → AppliesJointly p a (Ok o) (replace_vault p u)
 vault_made laws p a u o did joint may within is left sound goes asks outputs =
     made laws p (replace_vault p u) a o joint may within (parts_with_vault p u joint.parts sound) refl
@@ -157,7 +160,8 @@ vault_made laws p a u o did joint may within is left sound goes asks outputs =
 pub vault_met : ActLaws → (p : PlantTold) (a : Act) (u : VaultTold) (f : EngineFault)
     → Joint p → MayAct (plan_numbers p.plan) a
     → ((end : State) → end ≡ state_of p → Left (plan_numbers p.plan) (state_of p) a (kind_of f) end)
-    → Sound p.plan u → numbers_of u ≡ numbers_of p.vault → IsCause p a (replace_vault p u) f → AsksVault (calls_vault p a) p.vault false u → PutsToSinksAlone p.plan p.vault u
+    → Sound p.plan u → numbers_of u ≡ numbers_of p.vault → IsCause p a (replace_vault p u) f → AsksVault (calls_vault p a) p.vault false u
+    → PutsToNoOther p.plan (sink_failed (sink_of a) f) p.vault u
     → AppliesJointly p a (Err f) (replace_vault p u)
 vault_met laws p a u f joint may left sound kept cause asks outputs =
     met laws p (replace_vault p u) a f joint may (parts_with_vault p u joint.parts sound) refl

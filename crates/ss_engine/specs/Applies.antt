@@ -1,7 +1,7 @@
 -- What an act makes of a running job. `p` is what the job tells before it, and `q` after it.
-use Rattle.std.specs.Prelude.{◌≡◌, ℕ, max, Bool, true, false, ◌&&◌, Option, Result, Ok, Err, is_ok}
+use Rattle.std.specs.Prelude.{◌≡◌, ℕ, max, Bool, true, false, ◌&&◌, Option, Some, None, Result, Ok, Err, is_ok}
 use Rattle.ss_acts.specs.Faults.{Fails, made_by}
-use Rattle.ss_acts.specs.Leaves.{AsksVault, Goes, Keeps, PutsToSinksAlone}
+use Rattle.ss_acts.specs.Leaves.{AsksVault, Goes, Keeps, PutsBy}
 use Rattle.ss_acts.specs.Parts.{vertex_of}
 use Rattle.ss_acts.specs.Readings.{has_snapshot, needs_snapshot, number_wanted}
 use Rattle.ss_acts.specs.declared.fault.EngineFault.{EngineFault}
@@ -12,6 +12,7 @@ use Rattle.ss_fail.specs.declared.outcome.Outcome.{Outcome}
 use Rattle.ss_frames.specs.Plans.{plan_numbers}
 use Rattle.ss_plan.specs.Plan.{PlanText}
 use Rattle.ss_state.specs.Acts.{needs_vault}
+use Rattle.ss_state.specs.Laws.{Grows}
 use Rattle.ss_state.specs.Numbers.{is_inner, input}
 use Rattle.ss_state.specs.State.{inst_at, tail_at}
 use Rattle.ss_state.specs.Step.{FaultKind, Store, Memory, Other, Left, MayAct, step, is_full, read_at, wanted_vertex}
@@ -44,6 +45,8 @@ pub record Makes (p : PlantTold) (a : Act) (q : PlantTold) (outcome : Outcome) :
   pub step : step (plan_numbers p.plan) (state_of p) a ≡ record { state = state_of q; outcome = outcome }
   pub within : is_full (plan_numbers p.plan) (state_of p) a ≡ false
   pub goes : Goes p.vault q.vault
+  -- nothing that is stored, collected or taken becomes less
+  pub grows : Grows (plan_numbers p.plan) (numbers_of p.vault).ledger (numbers_of q.vault).ledger
 
 -- a read was refused, and so was nothing else: vertex v would have given so many elements, more than a stream may have
 abbrev pub IsFullAt : PlantTold → Act → ℕ → ℕ → Type 0
@@ -60,6 +63,20 @@ IsFullAt p (act.Take k) v reached = ⊥
 IsFullAt p (act.Collect w) v reached = ⊥
 IsFullAt p (act.Trim w) v reached = ⊥
 IsFullAt p act.Pass v reached = ⊥
+
+-- the sink whose line the act puts
+abbrev pub sink_of : Act → Option ℕ
+sink_of (act.Read v r) = None
+sink_of (act.Write v r) = None
+sink_of (act.Snap v r) = None
+sink_of (act.Crash v r) = None
+sink_of (act.Load v r) = None
+sink_of (act.Lose v) = None
+sink_of (act.Flush v count) = None
+sink_of (act.Take k) = Some k
+sink_of (act.Collect v) = None
+sink_of (act.Trim v) = None
+sink_of act.Pass = None
 
 -- whether the act calls the vault: a read only where the tail doesn't have what is wanted, a snapshot and a load only
 -- where there is one to be stored or to be loaded
@@ -114,12 +131,17 @@ takes_memory (act.Collect v) = true
 takes_memory (act.Trim v) = true
 takes_memory act.Pass = true
 
+-- of a read from a tail or a list: no vertex would have given more than a stream may have; a read from what is stored
+-- is told so only when it has the element
+abbrev pub IsNotFull : PlantTold → Act → Type 0
+IsNotFull p a = calls_vault p a ≡ false → is_full (plan_numbers p.plan) (state_of p) a ≡ false
+
 -- why the act wasn't made
 abbrev pub IsCause : PlantTold → Act → PlantTold → EngineFault → Type 0
 IsCause p a q (fault.Vault f) =
     (entry : Option Entry) × Fails (CanMeet p a) p.plan p.vault entry (fault.Vault f) q.vault
 IsCause p a q (fault.Full v reached) = IsFullAt p a v reached × Keeps p.vault q.vault
-IsCause p a q fault.Memory = (takes_memory a ≡ true) × Goes p.vault q.vault
+IsCause p a q fault.Memory = (takes_memory a ≡ true) × IsNotFull p a × Goes p.vault q.vault
 
 -- the act met a fault
 pub record Meets (p : PlantTold) (a : Act) (q : PlantTold) (f : EngineFault) : Type 0 where
@@ -137,7 +159,7 @@ pub record AppliesJointly (p : PlantTold) (a : Act) (result : Result Outcome Eng
   pub joint : Joint q
   pub applies : Applies p a q result
   pub vault : AsksVault (calls_vault p a) p.vault (is_ok result) q.vault
-  pub outputs : PutsToSinksAlone p.plan p.vault q.vault
+  pub outputs : PutsBy p.plan (sink_of a) p.vault result q.vault
   pub needed : HasWhatIsNeeded q.plan q.vault
   -- a whole pass has left no more than that
   pub collected : is_ok result ≡ true → a ≡ act.Pass → HasCollected p.plan p.vault q.vault

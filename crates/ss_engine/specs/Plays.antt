@@ -1,13 +1,17 @@
 -- What a list of acts makes of a running job, one behind the other.
-use Rattle.std.specs.Prelude.{◌≡◌, ◌⊎◌, Bool, true, List, [], ◌∷◌, ◌++◌, map, Result, Ok, Err, if◌then◌else◌}
-use Rattle.ss_acts.specs.Leaves.{Goes, PutsToSinksAlone}
+use Rattle.std.specs.Prelude.{◌≡◌, ◌⊎◌, Bool, true, false, List, [], ◌∷◌, ◌++◌, map, Result, Ok, Err, if◌then◌else◌}
+use Rattle.ss_acts.specs.Leaves.{Goes, PutsToNoOther, PutsToTakers, sink_failed}
 use Rattle.ss_acts.specs.declared.fault.EngineFault.{EngineFault}
 use Rattle.ss_acts.specs.declared.fault.EngineFault.TheVariants as fault
 use Rattle.ss_fail.specs.declared.act.Act.{Act}
 use Rattle.ss_fail.specs.declared.outcome.Outcome.{Outcome}
 use Rattle.ss_frames.specs.Plans.{plan_numbers}
-use Rattle.ss_state.specs.Step.{Made, Run}
-use Rattle.ss_engine.specs.Applies.{Meets}
+use Rattle.ss_state.specs.Laws.{Grows}
+use Rattle.ss_state.specs.Numbers.{JobNumbers}
+use Rattle.ss_state.specs.State.{State}
+use Rattle.ss_state.specs.Step.{Made, Run, is_full, step}
+use Rattle.ss_vault.specs.Told.{numbers_of}
+use Rattle.ss_engine.specs.Applies.{Meets, sink_of}
 use Rattle.ss_engine.specs.Joint.{Joint}
 use Rattle.ss_engine.specs.Told.{PlantTold, state_of}
 
@@ -34,12 +38,20 @@ with_made trace made = record {
   made = if trace.keeps then trace.made ++ made else trace.made;
 }
 
--- these acts with these outcomes led from one moment of a job to another, and halted nothing
+-- none of these acts, one behind the other from a state on, would let a vertex give more than a stream may have
+abbrev pub NoneIsFull : JobNumbers → State → List Act → Type 0
+NoneIsFull job s [] = Unit {0}
+NoneIsFull job s (a ∷ acts) = (is_full job s a ≡ false) × NoneIsFull job (step job s a).state acts
+
+-- these acts with these outcomes led from one moment of a job to another, and halted nothing; no number of the ledger
+-- fell, and only the files of sinks that took an element were put to
 pub record Runs (p : PlantTold) (made : List Made) (q : PlantTold) : Type 0 where
   pub plan : q.plan ≡ p.plan
   pub run : Run (plan_numbers p.plan) (state_of p) made (state_of q)
+  pub within : NoneIsFull (plan_numbers p.plan) (state_of p) (acts_of made)
   pub goes : Goes p.vault q.vault
-  pub outputs : PutsToSinksAlone p.plan p.vault q.vault
+  pub grows : Grows (plan_numbers p.plan) (numbers_of p.vault).ledger (numbers_of q.vault).ledger
+  pub outputs : PutsToTakers p.plan p.vault q.vault
 
 -- all of the acts were made, and the trace has each with its outcome
 pub record PlaysAll (p : PlantTold) (acts : List Act) (before : TraceTold) (q : PlantTold) (after : TraceTold) : Type 0
@@ -65,7 +77,8 @@ pub record PlaysUpTo (p : PlantTold) (acts : List Act) (before : TraceTold) (f :
   pub runs : Runs p made between
   pub joint : Joint between
   pub stops : StopsAt between next q f
-  pub outputs : PutsToSinksAlone p.plan p.vault q.vault
+  -- it put to no file but that of the sink whose put failed
+  pub outputs : PutsToNoOther between.plan (sink_failed (sink_of next) f) between.vault q.vault
 
 abbrev pub Plays : PlantTold → List Act → TraceTold → Result (Unit {0}) EngineFault → PlantTold → TraceTold → Type 0
 Plays p acts before (Ok _) q after = PlaysAll p acts before q after

@@ -80,11 +80,11 @@ Reads old new name before after (Ok _) = MayGive (old.file name) after × KeepsI
 Reads old new name before after (Err input.Failed) = (after ≡ before) × FailsAt old new name
 Reads old new name before after (Err input.Memory) = (after ≡ before) × MayBeThere (old.file name) × KeepsInputs old new
 
--- a release of this name up to this mark
+-- a release of this name up to this mark; it answers nothing, so it is no read that fails
 pub record Releases (old new : InputsTold) (name : List ℕ) (mark : ℕ) : Type 0 where
   pub file : new.file ≡ changed_at name (with_mark mark) old.file
   pub missed : new.missed ≡ old.missed
-  pub faults : new.faults ≡ old.faults
+  pub faults : old.faults ≤ new.faults
 
 -- ---- outputs
 

@@ -1,5 +1,5 @@
 -- How it ends that a schedule is played, from how the engine ends it.
-use Rattle.std.proofs.Common.{◌≡◌, ℕ, zero, suc, ◌<◌, ◌≤◌, ◌⊎◌, true, List, [], ◌∷◌, ◌++◌, length, get_or, take, map}
+use Rattle.std.proofs.Common.{◌≡◌, ◌≢◌, ℕ, zero, suc, ◌<◌, ◌≤◌, ◌⊎◌, true, List, [], ◌∷◌, ◌++◌, length, get_or, take, map}
 use Rattle.std.proofs.Common.{Option, Some, None, Result, Ok, Err, refl, sym, ap, ◌∙◌, subst, inl, inr, arith}
 use Rattle.std.specs.Prelude.{All, IfErr, IfOk, IsSome, slice_get, option_map}
 use Rattle.std.proofs.lemmas.Bool.{cases_lt, ltb-true}
@@ -24,20 +24,20 @@ use Rattle.ss_plan.specs.Plan.{PlanText}
 use Rattle.ss_plan.specs.Streams.{every}
 use Rattle.ss_state.specs.IsNumbers.{IsNumbers}
 use Rattle.ss_state.specs.Numbers.{JobNumbers, VertexNumbers, input, out, size, sum_of, vertex, wanted_input}
-use Rattle.ss_state.specs.State.{InstNumbers, LedgerRow, State, empty_row, inst_at}
+use Rattle.ss_state.specs.State.{InstNumbers, LedgerRow, State, empty_row, first_row, first_state, inst_at, row_at}
 use Rattle.ss_state.specs.Step.{Made, MayAct, Run, has_passed, is_full, read_at, wanted_vertex}
 use Rattle.ss_state.specs.declared.entry.Entry.{Entry}
 use Rattle.ss_vault.specs.Calls.{RefusesStart}
 use Rattle.ss_vault.specs.Counts.{NoneFell, counts_told}
 use Rattle.ss_vault.specs.Facts.{PlanFacts}
-use Rattle.ss_vault.specs.Sound.{HasFiles, Sound}
-use Rattle.ss_vault.specs.Told.{VaultTold, counts_of, numbers_of}
+use Rattle.ss_vault.specs.Sound.{HasFiles, Sound, sink_file}
+use Rattle.ss_vault.specs.Told.{VaultTold, counts_of, durable_of, numbers_of}
 use Rattle.ss_vault.specs.declared.counts.Counts.{Counts}
 use Rattle.ss_vault.specs.declared.fault.VaultFault.{VaultFault}
 use Rattle.ss_vault.specs.declared.fault.VaultFault.TheVariants as vault
 use Rattle.ss_play.specs.Ending.{Ends, EndsAll, EndsEarly, devices_of}
 use Rattle.ss_play.specs.Laws.{AllAreTold, RefusalsAreTold, SinceStart, StopsAreTold}
-use Rattle.ss_play.specs.Playing.{AreMarks, Devices, EndsPlaying, IsCauseOf, NoCountFell, Played, PutsToSinks, StopsPlaying, Tells}
+use Rattle.ss_play.specs.Playing.{AreMarks, Devices, EndsPlaying, IsCauseOf, NoCountFell, Played, PutsToSinks, PutsWhereTaken, StopsPlaying, Tells}
 use Rattle.ss_play.specs.Faults.{IsOfStart, of_engine, of_vault}
 use Rattle.ss_play.specs.declared.fault.PlayFault.{PlayFault}
 use Rattle.ss_play.specs.declared.fault.PlayFault.TheVariants as fault
@@ -180,7 +180,7 @@ told_act : (p : PlantTold) → PlanFacts p.plan → (a : Act) (q : PlantTold) (f
 told_act p facts a q (engine.Vault f) may going cause = told_by_vault p facts a cause.0 q f may going cause.1
 told_act p facts a q (engine.Full v reached) may going cause =
     record { cause = long p facts a v reached may cause.0; counts = cause.1.goes.counts }
-told_act p facts a q engine.Memory may going cause = record { cause = tt; counts = cause.1.counts }
+told_act p facts a q engine.Memory may going cause = record { cause = tt; counts = cause.2.counts }
 
 nothing_fell : (s : VaultTold) → NoCountFell (devices_of s) (devices_of s)
 nothing_fell s = record { faults = omega arith; output_faults = omega arith; shorts = omega arith }
@@ -210,6 +210,18 @@ next_may plan acts before rest next e may =
     (ap (λ (xs : List Act). get_or xs (length before) next) e ∙ get_or_at before next rest next (length before) refl)
     (may (length before) next lt)
 
+-- acts that were made put to no file but those of sinks
+to_sinks : (p q : PlantTold) (made : List Made) → Runs p made q → PutsToSinks p.plan p.vault.outputs q.vault.outputs
+to_sinks p q made runs name not_sink = runs.outputs name (λ k file. absurd (not_sink k file))
+
+-- and so did those up to one that stopped, and that one
+to_sinks_early : (p q : PlantTold) (acts : List Act) (before after : TraceTold) (f : EngineFault) → PlaysUpTo p acts before f q after
+    → PutsToSinks p.plan p.vault.outputs q.vault.outputs
+to_sinks_early p q acts before after f plays name not_sink =
+    plays.outputs name
+        (λ k is. subst (λ (plan : PlanText). sink_file plan k ≢ Some name) (sym plays.runs.plan) (not_sink k))
+        ∙ to_sinks p plays.between plays.made plays.runs name not_sink
+
 pub ends_early : (p : PlantTold) → PlanFacts p.plan → (acts : List Act) (before after : TraceTold) (f : EngineFault) (q : PlantTold)
     → p.vault.halted ≡ None → All (MayAct (plan_numbers p.plan)) acts → PlaysUpTo p acts before f q after
     → EndsEarly p acts (of_engine f) q
@@ -227,7 +239,7 @@ ends_early p facts acts before after f q going may plays =
       cause = cause_before p.plan (devices_of p.vault) (devices_of mid.vault) (devices_of q.vault) (of_engine f) counts
           (subst (λ (plan : PlanText). IsCauseOf plan (devices_of mid.vault) (of_engine f) (devices_of q.vault)) same stop.told.cause);
       counts = fell_never (counts_of p.vault) (counts_of mid.vault) (counts_of q.vault) counts stop.told.counts;
-      outputs = plays.outputs;
+      outputs = to_sinks_early p q acts before after f plays;
     }
 
 -- all acts were made, but there was no memory to tell of them
@@ -238,7 +250,7 @@ ends_untold p acts made f q are runs memory = record {
   stops = inr (made, are, runs, memory);
   cause = subst (λ (g : PlayFault). IsCauseOf p.plan (devices_of p.vault) g (devices_of q.vault)) (sym memory) tt;
   counts = runs.goes.counts;
-  outputs = runs.outputs;
+  outputs = to_sinks p q made runs;
 }
 
 -- a trace of no act before has just those that were made
@@ -271,6 +283,15 @@ may_be_made p acts before after q plays none may =
 
 -- ---- a schedule, from the start on
 
+-- what a sink has taken at the start
+first_taken : (job : JobNumbers) (k : ℕ) → (row_at (first_state job).vault.ledger k).taken ≡ 0
+first_taken job k = row_taken job.vertices k
+  where
+    row_taken : (xs : List VertexNumbers) (k : ℕ) → (get_or (map first_row xs) k empty_row).taken ≡ 0
+    row_taken [] k = refl
+    row_taken (x ∷ xs) zero = refl
+    row_taken (x ∷ xs) (suc k) = row_taken xs k
+
 module _ (plan : PlanText) (acts : List Act) (before : Devices) (p q : PlantTold) (began : Begins plan before.outputs before.depot p)
     (joint : Joint p) (left : Joint q) where
   fell_at_start : NoCountFell before (devices_of p.vault)
@@ -284,6 +305,15 @@ module _ (plan : PlanText) (acts : List Act) (before : Devices) (p q : PlantTold
   others_to others =
       subst (λ (told : OutputsTold). PutsToSinks plan told q.vault.outputs) began.same_outputs
       (subst (λ (text : PlanText). PutsToSinks text p.vault.outputs q.vault.outputs) began.of_plan others)
+
+  -- at the start no sink has taken anything
+  none_taken : (k : ℕ) → (durable_of p.vault k).taken ≡ 0
+  none_taken k = ap (λ (s : State). (row_at s.vault.ledger k).taken) began.state ∙ first_taken (plan_numbers plan) k
+
+  where_taken : (made : List Made) → Runs p made q → PutsWhereTaken plan (numbers_of q.vault).ledger before.outputs q.vault.outputs
+  where_taken made runs name none =
+      subst (λ (told : OutputsTold). q.vault.outputs.put_to name ≡ told.put_to name) began.same_outputs
+      (runs.outputs name (λ k file. none k (subst (λ (text : PlanText). sink_file text k ≡ Some name) began.of_plan file) ∙ sym (none_taken k)))
 
   played : (made : List Made) → acts_of made ≡ acts → Runs p made q → Played plan acts before made (state_of q) (devices_of q.vault)
   played made are runs =
@@ -307,7 +337,7 @@ module _ (plan : PlanText) (acts : List Act) (before : Devices) (p q : PlantTold
         run = subst (λ (start : State). Run (plan_numbers plan) start made (state_of q)) began.state run_from;
         files = subst (λ (halted : Option VaultFault). HasFiles plan (numbers_of q.vault).ledger halted q.vault.outputs) going
             sound.delivered.files;
-        others = others_to runs.outputs;
+        others = where_taken made runs;
         holds = record { records = sound.records; frames = λ v n. (sound.snapshots v).frames n };
         counts = fell_to runs.goes.counts;
       }

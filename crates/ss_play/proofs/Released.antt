@@ -108,7 +108,7 @@ none_released job marks v o old h e ne = record {
   file = λ name. sym (unmarked (old.file name))
       ∙ ap (λ (m : ℕ). with_mark m (old.file name)) (sym (one_among job marks (text_at job v) name false (no_source_at job v o name h e ne)));
   missed = refl;
-  faults = refl;
+  faults = omega arith;
 }
 
 -- ---- one release behind others
@@ -129,7 +129,7 @@ marked_twice b c least missing = refl
 marked_twice b c least (held file) = ap (λ (m : ℕ). held (record file { mark = m })) (twice b c least file.mark)
 
 pub released_none : (job : JobText) (marks : ℕ → ℕ) (old : InputsTold) → ReleasesFiles job marks [] old old
-released_none job marks old = record { file = λ name. sym (unmarked (old.file name)); missed = refl; faults = refl }
+released_none job marks old = record { file = λ name. sym (unmarked (old.file name)); missed = refl; faults = omega arith }
 
 released_both : (job : JobText) (marks : ℕ → ℕ) (xs ys : List VertexText) (a b c : InputsTold)
     → ReleasesFiles job marks xs a b → ReleasesFiles job marks ys b c → ReleasesFiles job marks (xs ++ ys) a c
@@ -140,7 +140,7 @@ released_both job marks xs ys a b c first second = record {
       ∙ marked_twice (list_any (is_source_of name) xs) (list_any (is_source_of name) ys) (least_mark job marks name) (a.file name)
       ∙ ap (λ (t : Bool). with_mark (mark_where t (least_mark job marks name)) (a.file name)) (sym (list_any-append (is_source_of name) xs ys));
   missed = second.missed ∙ first.missed;
-  faults = second.faults ∙ first.faults;
+  faults = let one = first.faults in let two = second.faults in omega (arith, one, two);
 }
 
 pub released_more : (job : JobText) (marks : ℕ → ℕ) (v : ℕ) (a b c : InputsTold) → v < length job.vertices

@@ -1,12 +1,11 @@
 -- How it ends that acts are made on a job that goes on.
 use Rattle.std.specs.Prelude.{◌≡◌, List, Result, Ok, Err}
-use Rattle.ss_acts.specs.Leaves.{PutsToSinksAlone}
 use Rattle.ss_engine.specs.Plays.{Runs, acts_of}
 use Rattle.ss_engine.specs.Told.{PlantTold, state_of}
 use Rattle.ss_fail.specs.declared.act.Act.{Act}
 use Rattle.ss_state.specs.Step.{Made}
 use Rattle.ss_vault.specs.Told.{VaultTold}
-use Rattle.ss_play.specs.Playing.{Devices, IsCauseOf, NoCountFell, StopsAfter, Tells}
+use Rattle.ss_play.specs.Playing.{Devices, IsCauseOf, NoCountFell, PutsToSinks, StopsAfter, Tells}
 use Rattle.ss_play.specs.declared.fault.PlayFault.{PlayFault}
 use Rattle.ss_play.specs.declared.playing.Report.{Report}
 
@@ -27,7 +26,7 @@ pub record EndsEarly (p : PlantTold) (acts : List Act) (f : PlayFault) (q : Plan
   pub stops : StopsAfter p acts f q
   pub cause : IsCauseOf p.plan (devices_of p.vault) f (devices_of q.vault)
   pub counts : NoCountFell (devices_of p.vault) (devices_of q.vault)
-  pub outputs : PutsToSinksAlone p.plan p.vault q.vault
+  pub outputs : PutsToSinks p.plan p.vault.outputs q.vault.outputs
 
 abbrev pub Ends : PlantTold → List Act → Result Report PlayFault → PlantTold → Type 0
 Ends p acts (Ok report) q = EndsAll p acts report q

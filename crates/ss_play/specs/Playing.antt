@@ -40,6 +40,12 @@ abbrev pub PutsToSinks : PlanText → OutputsTold → OutputsTold → Type 0
 PutsToSinks plan old new =
     (name : List ℕ) → ((k : ℕ) → sink_file plan k ≢ Some name) → new.put_to name ≡ old.put_to name
 
+-- nor was the file of a sink that took nothing, so what stood in such a file before stays
+abbrev pub PutsWhereTaken : PlanText → Ledger → OutputsTold → OutputsTold → Type 0
+PutsWhereTaken plan l old new =
+    (name : List ℕ) → ((k : ℕ) → sink_file plan k ≡ Some name → (row_at l k).taken ≡ 0)
+    → new.put_to name ≡ old.put_to name
+
 -- no count fell
 abbrev pub NoCountFell : Devices → Devices → Type 0
 NoCountFell before after = NoneFell (counts_told before.outputs before.depot) (counts_told after.outputs after.depot)
@@ -61,7 +67,7 @@ pub record Played (plan : PlanText) (acts : List Act) (before : Devices) (made :
   pub are : acts_of made ≡ acts
   pub run : Run (plan_numbers plan) (first_state (plan_numbers plan)) made s
   pub files : FilesHave plan s.vault.ledger nothing_behind after.outputs
-  pub others : PutsToSinks plan before.outputs after.outputs
+  pub others : PutsWhereTaken plan s.vault.ledger before.outputs after.outputs
   pub holds : HoldsStored plan s.vault.ledger after.depot.contents
   pub counts : NoCountFell before after
 
@@ -83,7 +89,8 @@ StopsAfter start acts f end =
     ⊎ ((made : List Made) × (acts_of made ≡ acts) × Runs start made end × (f ≡ fault.Memory))
 
 -- a job that was started, and stopped so: it is joint, and its vault sound, so that the file of each sink has its lines
--- up to some element, and at most one of them a part of its next line besides
+-- up to some element, and at most one of them a part of its next line besides. The acts that were made put to the files
+-- of sinks that took an element, and the one that stopped to that of its own sink, if its put failed: `stops` says so
 pub record StopsInRun (plan : PlanText) (acts : List Act) (before : Devices) (f : PlayFault) (after : Devices)
     : Type 0 where
   pub start : PlantTold

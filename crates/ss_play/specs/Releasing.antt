@@ -1,5 +1,5 @@
 -- Which elements of event files are given up.
-use Rattle.std.specs.Prelude.{◌≡◌, ℕ, ◌+◌, min, Bool, false, List, [], ◌∷◌, ◌++◌, get_or, Option, Some, None, bytes_eq}
+use Rattle.std.specs.Prelude.{◌≡◌, ◌≤◌, ℕ, ◌+◌, min, Bool, false, List, [], ◌∷◌, ◌++◌, get_or, Option, Some, None, bytes_eq}
 use Rattle.std.specs.Prelude.{if◌then◌else◌}
 use Rattle.std.specs.List.{list_any}
 use Rattle.ss_job.specs.JobText.{VertexText, source, inner, sink, JobText}
@@ -25,7 +25,7 @@ least_mark job marks name = least_of (marks_among job.vertices 0 marks name)
 pub record ReleasesAll (job : JobText) (marks : ℕ → ℕ) (old new : InputsTold) : Type 0 where
   pub file : (name : List ℕ) → new.file name ≡ with_mark (least_mark job marks name) (old.file name)
   pub missed : new.missed ≡ old.missed
-  pub faults : new.faults ≡ old.faults
+  pub faults : old.faults ≤ new.faults
 
 -- ---- one vertex behind another
 
@@ -54,4 +54,4 @@ pub record ReleasesFiles (job : JobText) (marks : ℕ → ℕ) (vertices : List 
   where
     pub file : (name : List ℕ) → new.file name ≡ with_mark (mark_among job marks vertices name) (old.file name)
     pub missed : new.missed ≡ old.missed
-    pub faults : new.faults ≡ old.faults
+    pub faults : old.faults ≤ new.faults

@@ -1,10 +1,10 @@
 -- Acts that were made one list behind another.
 use Rattle.std.proofs.Common.{◌≡◌, ◌∙◌, Bool, true, false, List, [], ◌∷◌, ◌++◌, Result, Ok, Err, map, refl, sym, ap, subst, arith, append_assoc}
 use Rattle.std.proofs.lemmas.List.{append-nil, map-append}
-use Rattle.ss_acts.specs.Leaves.{Goes, PutsToSinksAlone}
+use Rattle.ss_acts.specs.Leaves.{Goes, PutsToTakers}
 use Rattle.ss_acts.specs.declared.fault.EngineFault.{EngineFault}
 use Rattle.ss_engine.specs.Joint.{Joint}
-use Rattle.ss_engine.specs.Plays.{Plays, PlaysAll, PlaysUpTo, Runs, TraceTold, acts_of, with_made}
+use Rattle.ss_engine.specs.Plays.{NoneIsFull, Plays, PlaysAll, PlaysUpTo, Runs, TraceTold, acts_of, with_made}
 use Rattle.ss_engine.specs.PlaysOne.{MakesOne, StopsAtOne}
 use Rattle.ss_engine.specs.Told.{PlantTold, state_of}
 use Rattle.ss_fail.specs.declared.act.Act.{Act}
@@ -12,9 +12,10 @@ use Rattle.ss_fail.specs.declared.outcome.Outcome.{Outcome}
 use Rattle.ss_frames.specs.Plans.{plan_numbers}
 use Rattle.ss_plan.specs.Plan.{PlanText}
 use Rattle.ss_state.specs.Numbers.{JobNumbers}
-use Rattle.ss_state.specs.State.{State}
-use Rattle.ss_state.specs.Step.{Made, Ran, Run, run, step}
-use Rattle.ss_vault.specs.Told.{VaultTold}
+use Rattle.ss_state.specs.Laws.{Grows}
+use Rattle.ss_state.specs.State.{Ledger, State}
+use Rattle.ss_state.specs.Step.{Made, Ran, Run, is_full, run, step}
+use Rattle.ss_vault.specs.Told.{VaultTold, numbers_of}
 
 abbrev pub outcomes_of : List Made → List Outcome
 outcomes_of made = map (λ (m : Made). m.outcome) made
@@ -86,21 +87,58 @@ goes_on s t u first second = record {
   counts = record { faults = omega arith; output_faults = omega arith; shorts = omega arith };
 }
 
-puts_on : (plan : PlanText) (s t u : VaultTold) → PutsToSinksAlone plan s t → PutsToSinksAlone plan t u → PutsToSinksAlone plan s u
-puts_on plan s t u first second = λ name h. second name h ∙ first name h
+puts_on : (plan : PlanText) (s t u : VaultTold) → Grows (plan_numbers plan) (numbers_of s).ledger (numbers_of t).ledger
+    → Grows (plan_numbers plan) (numbers_of t).ledger (numbers_of u).ledger
+    → PutsToTakers plan s t → PutsToTakers plan t u → PutsToTakers plan s u
+puts_on plan s t u g h first second name none =
+    second name (λ k file. let whole = none k file in let low = g.taken k in let high = h.taken k in omega (arith, whole, low, high))
+    ∙ first name (λ k file. let whole = none k file in let low = g.taken k in let high = h.taken k in omega (arith, whole, low, high))
 
-runs_then : (p q r : PlantTold) (made more : List Made) → Runs p made q → Runs q more r → Runs p (made ++ more) r
-runs_then p q r made more first second = record {
-  plan = second.plan ∙ first.plan;
-  run = run_then (plan_numbers p.plan) (state_of p) (state_of q) (state_of r) made more first.run
-      (subst (λ (plan : PlanText). Run (plan_numbers plan) (state_of q) more (state_of r)) first.plan second.run);
-  goes = goes_on p.vault q.vault r.vault first.goes second.goes;
-  outputs = puts_on p.plan p.vault q.vault r.vault first.outputs
-      (subst (λ (plan : PlanText). PutsToSinksAlone plan q.vault r.vault) first.plan second.outputs);
+grows_same : (job : JobNumbers) (l : Ledger) → Grows job l l
+grows_same job l = record { dur = λ v. omega arith; taken = λ v. omega arith; base = λ v. omega arith; low = λ v. omega arith }
+
+grows_on : (job : JobNumbers) (l m n : Ledger) → Grows job l m → Grows job m n → Grows job l n
+grows_on job l m n g h = record {
+  dur = λ v. let one = g.dur v in let two = h.dur v in omega (arith, one, two);
+  taken = λ v. let one = g.taken v in let two = h.taken v in omega (arith, one, two);
+  base = λ v. let one = g.base v in let two = h.base v in omega (arith, one, two);
+  low = λ v. let one = g.low v in let two = h.low v in omega (arith, one, two);
 }
 
+none_then : (job : JobNumbers) (s : State) (xs ys : List Act) → NoneIsFull job s xs → NoneIsFull job (run job s xs).state ys
+    → NoneIsFull job s (xs ++ ys)
+none_then job s [] ys first second = second
+none_then job s (x ∷ xs) ys first second = (first.0, none_then job (step job s x).state xs ys first.1 second)
+
+runs_then : (p q r : PlantTold) (made more : List Made) → Runs p made q → Runs q more r → Runs p (made ++ more) r
+runs_then p q r made more first second =
+    let job : JobNumbers = plan_numbers p.plan in
+    let grows : Grows job (numbers_of q.vault).ledger (numbers_of r.vault).ledger =
+    subst (λ (plan : PlanText). Grows (plan_numbers plan) (numbers_of q.vault).ledger (numbers_of r.vault).ledger) first.plan second.grows in
+    let behind : NoneIsFull job (state_of q) (acts_of more) =
+    subst (λ (plan : PlanText). NoneIsFull (plan_numbers plan) (state_of q) (acts_of more)) first.plan second.within in
+    record {
+      plan = second.plan ∙ first.plan;
+      run = run_then job (state_of p) (state_of q) (state_of r) made more first.run
+          (subst (λ (plan : PlanText). Run (plan_numbers plan) (state_of q) more (state_of r)) first.plan second.run);
+      within = subst (NoneIsFull job (state_of p)) (sym (map-append (λ (m : Made). m.act) made more))
+          (none_then job (state_of p) (acts_of made) (acts_of more) first.within
+          (subst (λ (s : State). NoneIsFull job s (acts_of more)) (sym (run_ends job (state_of p) (state_of q) made first.run)) behind));
+      goes = goes_on p.vault q.vault r.vault first.goes second.goes;
+      grows = grows_on job (numbers_of p.vault).ledger (numbers_of q.vault).ledger (numbers_of r.vault).ledger first.grows grows;
+      outputs = puts_on p.plan p.vault q.vault r.vault first.grows grows first.outputs
+          (subst (λ (plan : PlanText). PutsToTakers plan q.vault r.vault) first.plan second.outputs);
+    }
+
 runs_none : (p : PlantTold) → Runs p [] p
-runs_none p = record { plan = refl; run = refl; goes = goes_same p.vault; outputs = λ name h. refl }
+runs_none p = record {
+  plan = refl;
+  run = refl;
+  within = tt;
+  goes = goes_same p.vault;
+  grows = grows_same (plan_numbers p.plan) (numbers_of p.vault).ledger;
+  outputs = λ name none. refl;
+}
 
 pub plays_none : (p : PlantTold) (before : TraceTold) → PlaysAll p [] before p before
 plays_none p before = record {
@@ -136,8 +174,7 @@ up_to_then p q r xs ys before mid after f first second = record {
   runs = runs_then p q second.between first.made second.made first.runs second.runs;
   joint = second.joint;
   stops = second.stops;
-  outputs = puts_on p.plan p.vault q.vault r.vault first.runs.outputs
-      (subst (λ (plan : PlanText). PutsToSinksAlone plan q.vault r.vault) first.runs.plan second.outputs);
+  outputs = second.outputs;
 }
 
 -- some acts, and then others up to the first fault
@@ -157,7 +194,9 @@ one_made p q a o before after one = record {
   runs = record {
     plan = one.makes.plan;
     run = let did = one.makes.step in rw did refl;
+    within = (one.makes.within, tt);
     goes = one.makes.goes;
+    grows = one.makes.grows;
     outputs = one.outputs;
   };
 }

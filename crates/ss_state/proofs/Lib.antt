@@ -15,6 +15,7 @@ mod Growing
 mod Marks
 mod Staying
 mod WholePass
+mod Required
 mod Meant
 mod Runnable
 mod Vaults

@@ -101,6 +101,28 @@ NeededIsThere =
     (job : JobNumbers) (vault : VaultNumbers) (v : ℕ) → IsNumbers job → IsSound job vault → IsStream job v
     → ((row_at vault.ledger v).base ≤ need job vault.ledger v) × (need job vault.ledger v ≤ required job vault.ledger v)
 
+-- an operator's low-water mark is at most where it starts from what is stored
+abbrev pub LowIsBelowStart : Type 0
+LowIsBelowStart =
+    (job : JobNumbers) (l : Ledger) (v : ℕ) → IsNumbers job → IsOperator job v → low_at job l v ≤ start job l v
+
+-- so what is needed of a stream is at most what is required of it
+abbrev pub NeedIsBelowRequired : Type 0
+NeedIsBelowRequired =
+    (job : JobNumbers) (l : Ledger) (v : ℕ) → IsNumbers job → IsStream job v → need job l v ≤ required job l v
+
+-- a stored element that is required stays where it is
+abbrev pub KeepsRequired : JobNumbers → Ledger → Ledger → Type 0
+KeepsRequired job l new =
+    (v n : ℕ) → IsStream job v → required job l v ≤ n → n < (row_at l v).dur
+    → ((row_at new v).base ≤ n) × (n < (row_at new v).dur)
+
+-- whatever act is made
+abbrev pub NothingRequiredGoes : Type 0
+NothingRequiredGoes =
+    (job : JobNumbers) (s : State) (a : Act) → MayAct job a → Joint job s
+    → KeepsRequired job s.vault.ledger (step job s a).state.vault.ledger
+
 -- whether the entry tells that snapshot n of v was stored
 abbrev pub is_kept : ℕ → ℕ → Entry → Bool
 is_kept v n (entry.Kept w m) = w == v && m == n

@@ -4,6 +4,7 @@ ghost use Rattle.ss_state.specs.Laws.{ActsMakeOneEntry, NothingDurableFalls};
 ghost use Rattle.ss_state.specs.Laws.{FlushIsNeverApart, EntriesKeepSound, EntriesLowerNothing};
 ghost use Rattle.ss_state.specs.Laws.{LeastWantedIsOne, NeedIsLeast, RequiredAreMarks, MarksAreOne};
 ghost use Rattle.ss_state.specs.Laws.{NeededIsThere, SnapshotsAreThere, MarkIsBelowStart, PassCollectsExactly};
+ghost use Rattle.ss_state.specs.Laws.{LowIsBelowStart, NeedIsBelowRequired, NothingRequiredGoes};
 
 /// Neither what a vertex has read of an input nor what it has given falls as it accepts more.
 pub fn positions_never_fall()
@@ -43,6 +44,17 @@ pub fn marks_are_least()
     ensures need { NeedIsLeast }
     ensures required { RequiredAreMarks }
     ensures no_others { MarksAreOne }
+{}
+
+/// What is needed of a stream is at most what is required of it, over any ledger.
+pub fn need_is_below_required()
+    ensures low { LowIsBelowStart }
+    ensures need { NeedIsBelowRequired }
+{}
+
+/// No act drops a stored element that is required.
+pub fn nothing_required_goes()
+    ensures { NothingRequiredGoes }
 {}
 
 /// An entry that may stand where it does keeps a vault sound, and lowers nothing.

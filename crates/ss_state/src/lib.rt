@@ -17,8 +17,8 @@ pub use examples::{
 };
 pub use laws::{
     acts_keep_joint, acts_make_one_entry, entries_keep_sound, first_state_is_joint,
-    flush_is_never_apart, marks_are_least, nothing_durable_falls, nothing_needed_is_gone,
-    pass_collects_exactly, positions_never_fall,
+    flush_is_never_apart, marks_are_least, need_is_below_required, nothing_durable_falls,
+    nothing_needed_is_gone, nothing_required_goes, pass_collects_exactly, positions_never_fall,
 };
 pub use meaning::{job_of_three_is_meant, numbers_are_meant, runnable_has_numbers};
 pub use wrong_readings::wrong_readings_differ;

@@ -1,12 +1,17 @@
 -- A tail that stands goes on standing.
-use Rattle.std.proofs.Common.{◌≡◌, ℕ, ◌+◌, ◌-◌, ◌^◌, ◌<◌, ◌≤◌, List, [], ◌∷◌, ◌++◌, length, get_or, take, drop, min, max, Some, refl, sym, ap, subst, ◌∙◌, arith, inl, inr}
+use Rattle.std.proofs.Common.{◌≡◌, ℕ, nat_lt, Bool, false, Option, None, ap₂, if◌then◌else◌, ◌+◌, ◌-◌, ◌^◌, ◌<◌, ◌≤◌, List, [], ◌∷◌, ◌++◌, length, get_or, take, drop, min, max, Some, refl, sym, ap, subst, ◌∙◌, arith, inl, inr}
 use Rattle.std.specs.Prelude.{slice_get}
 use Rattle.std.proofs.lemmas.Bool.{cases_lt}
 use Rattle.std.proofs.lemmas.List.{append_assoc, drop-append-le, drop-drop, drop_all, get_or-drop, length-append, length-drop, length-take, take-append-drop, take_all, take_at, take_more}
 use Rattle.std.proofs.lemmas.Option.{get_or_from_slice_get, slice_get_within}
 use Rattle.ss_elem.specs.declared.element.Element.{Element}
 use Rattle.ss_state.specs.Tails.{batch_from, dropped_below}
-use Rattle.ss_tail.specs.Held.{Stands, TailHeld, added, batch_items, part, trimmed}
+use Rattle.std.proofs.lemmas.Bool.Decides.{nat_tests}
+use Rattle.std.specs.Option.{option_map_or}
+use Rattle.ss_tail.specs.Answers.{past_end, shown_at}
+use Rattle.ss_tail.specs.declared.answers.Shown.TheVariants.{Item, Below}
+use Rattle.ss_tail.proofs.Paged.{get_behind, get_front, get_past}
+use Rattle.ss_tail.specs.Held.{IsNumbered, Stands, TailHeld, added, batch_items, part, trimmed}
 
 -- a part of a part: what is left of the front of a list, cut off behind
 front_part : (xs whole : List Element) (d m : ℕ) → xs ≡ take (length xs) whole → take m (drop d xs) ≡ take (length (take m (drop d xs))) (drop d whole)
@@ -77,3 +82,19 @@ added_stands list most tail n x stands is_next is_item below =
       end_within = omega arith;
       seen_within = stands.seen_within;
     }
+
+-- an element of a tail that stands is that of the list
+pub held_is_of : (list : List Element) (most : ℕ) (tail : TailHeld) (n : ℕ) (x : Element) → Stands list most tail → tail.numbers.from ≤ n
+    → slice_get tail.items (n - tail.numbers.from) ≡ Some x → slice_get list n ≡ Some x
+held_is_of list most tail n x stands above is =
+    let from : ℕ = tail.numbers.from in
+    let there : from + (n - from) ≡ n = omega (arith, above) in
+    ap (slice_get list) (sym there) ∙ sym (get_behind list from (n - from))
+    ∙ get_front (length tail.items) (drop from list) (n - from) x (ap (λ (xs : List Element). slice_get xs (n - from)) (sym stands.items) ∙ is)
+
+-- a number past the last element
+pub past_is : (tail : TailHeld) (n : ℕ) → IsNumbered tail → tail.numbers.from ≤ n → tail.numbers.end ≤ n → past_end tail.numbers ≡ shown_at tail n
+past_is tail n numbered above past =
+    let none : slice_get tail.items (n - tail.numbers.from) ≡ None = get_past tail.items (n - tail.numbers.from) (omega (arith, numbered, above, past)) in
+    let not_below : nat_lt n tail.numbers.from ≡ false = grind (arith, nat_tests) in
+    sym (ap₂ (λ (b : Bool) (o : Option Element). if b then Below tail.numbers.from else option_map_or (λ x. Item x) o (past_end tail.numbers)) not_below none)

@@ -3,6 +3,7 @@ use Rattle.std.specs.Prelude.{◌≡◌, ℕ, ◌+◌, ◌-◌, ◌≤◌, ◌<�
 use Rattle.std.specs.Prelude.{if◌then◌else◌}
 use Rattle.ss_elem.specs.declared.element.Element.{Element}
 use Rattle.ss_state.specs.State.{TailNumbers, new_tail}
+use Rattle.ss_tail.specs.Pages.{Numbered}
 use Rattle.ss_state.specs.Tails.{appended, batch_from, dropped_below, restarted, told}
 
 -- a tail's numbers, and its elements, of which the first has the number `from`
@@ -10,11 +11,11 @@ pub record TailHeld : Type 0 where
   pub numbers : TailNumbers
   pub items : List Element
 
--- a vector of which so many elements at the front are dropped
-abbrev pub held : List Element → ℕ → ℕ → ℕ → Bool → ℕ → TailHeld
-held items dropped from seen torn stored = record {
-  numbers = record { from = from; end = from + (length items - dropped); seen = seen; torn = torn; stored = stored };
-  items = drop dropped items;
+-- what a tail holds that has these elements, and besides them these numbers
+abbrev pub held : Numbered → ℕ → Bool → ℕ → TailHeld
+held pages seen torn stored = record {
+  numbers = record { from = pages.from; end = pages.from + length pages.items; seen = seen; torn = torn; stored = stored };
+  items = pages.items;
 }
 
 -- the elements have the numbers from `from` up to and without `end`

@@ -25,3 +25,12 @@ pub enum Shown {
     /// The tail ends at `end`, and the wanted element wasn't written yet.
     NotYet { end: u64 },
 }
+
+/// What a tail has to be stored: the elements from number `from` on, those of `first` and after them those of `rest`.
+#[derive(Clone, Copy, Debug)]
+pub struct Batch<'a> {
+    /// The number of the first element.
+    pub from: u64,
+    pub first: &'a [Element],
+    pub rest: &'a [Element],
+}

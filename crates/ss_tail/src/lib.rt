@@ -2,8 +2,11 @@
 #![tactic(auto)]
 
 mod answers;
+mod page;
+mod page_list;
+mod pages;
 mod tail;
 
-pub use answers::{Shown, Wrote};
+pub use answers::{Batch, Shown, Wrote};
 pub use std::alloc::AllocError as Memory;
 pub use tail::Tail;

@@ -1,43 +1,37 @@
-ghost use Rattle.std.specs.Prelude.{◌≡◌, ◌+◌, ◌-◌, ◌<◌, ◌≤◌, ◌^◌, ℕ, List, drop, length, slice_get, take, is_ok};
+ghost use Rattle.std.specs.Prelude.{◌≡◌, ◌+◌, ◌-◌, ◌<◌, ◌≤◌, ◌^◌, ◌++◌, ℕ, List, length, slice_get, is_ok};
 ghost use Rattle.std.specs.Prelude.{IfOk, Some, if◌then◌else◌};
 ghost use Rattle.ss_elem.specs.declared.element.Element.{Element};
 ghost use Rattle.ss_state.specs.Tails.{batch_from, batch_len};
-ghost use Rattle.ss_tail.specs.Answers.{IsOf, shown_at, wrote_at};
+ghost use Rattle.ss_tail.specs.Answers.{IsOf, past_end, shown_at, wrote_at};
 ghost use Rattle.ss_tail.specs.Held.{IsNumbered, Stands, added, batch_items, begun_at, empty, noted, part, trimmed};
 ghost use Rattle.ss_tail.specs.Held.{written};
+ghost use Rattle.ss_tail.specs.Pages.{page_count};
 
 use crate::Memory;
-use crate::answers::{Shown, Wrote};
+use crate::answers::{Batch, Shown, Wrote};
+use crate::pages::Pages;
 use ss_elem::Element;
 use std::alloc::Global;
 use std::marker::Model;
 
 /// The newest elements of a stream, which are held in memory, and what is known of those before them.
-///
-/// Elements that are dropped stay in the vector until they are more than half of it, so that dropping a few doesn't
-/// move the others.
 #[derive(Drop)]
 pub struct Tail {
-    items: Vec<Element>,
-    /// How many elements at the front of `items` are dropped.
-    dropped: usize,
-    /// The number of the first element that isn't.
-    from: u64,
+    pages: Pages,
     seen: u64,
     torn: bool,
     stored: u64,
 }
 
 impl Model for Tail {
-    ghost use Rattle.std.specs.Prelude.{◌+◌, ◌-◌, ◌<◌, ◌≤◌, ◌^◌, drop, vec_len};
-    ghost use Rattle.ss_state.specs.State.{TailNumbers};
+    ghost use Rattle.std.specs.Prelude.{◌+◌, ◌<◌, ◌^◌, length};
     ghost use Rattle.ss_tail.specs.Held.{TailHeld, held};
 
     ghost Value = { TailHeld };
 
-    ghost view = { λ t. held t.items.items t.dropped t.from t.seen t.torn t.stored };
+    ghost view = { λ t. held t.pages t.seen t.torn t.stored };
 
-    ghost invariant = { λ t. (t.dropped ≤ vec_len t.items) × (t.from + (vec_len t.items - t.dropped) < 2 ^ 64) };
+    ghost invariant = { λ t. t.pages.from + length t.pages.items < 2 ^ 64 };
 }
 
 impl Tail {
@@ -46,9 +40,7 @@ impl Tail {
         ensures { result ≡ empty }
     {
         Tail {
-            items: Vec::new(alloc),
-            dropped: 0,
-            from: 0,
+            pages: Pages::new(alloc),
             seen: 0,
             torn: false,
             stored: 0,
@@ -60,7 +52,7 @@ impl Tail {
         ensures from { result ≡ self.now.numbers.from }
         ensures numbered { IsNumbered self.now }
     {
-        self.from
+        self.pages.from()
     }
 
     /// The number after that of the last element.
@@ -68,7 +60,7 @@ impl Tail {
         ensures end { result ≡ self.now.numbers.end }
         ensures numbered { IsNumbered self.now }
     {
-        self.from + self.held() as u64
+        self.pages.end()
     }
 
     /// How many elements of the stream were stored when the tail was last told.
@@ -92,10 +84,11 @@ impl Tail {
         self.stored
     }
 
-    fn held(&self) -> usize
-        ensures { result ≡ length self.now.items }
+    /// How many pages of 64 numbers each the elements lie in: page q has the numbers from 64q to 64q + 63.
+    pub fn pages(&self) -> u64
+        ensures { result ≡ page_count self.now.numbers.from self.now.numbers.end }
     {
-        self.items.len() - self.dropped
+        self.pages.count()
     }
 
     /// Offers the element that has number `n` in the stream; the tail takes it where `n` is its next number.
@@ -110,7 +103,7 @@ impl Tail {
         if n > end {
             return Ok(Wrote::Gap { end });
         }
-        if n < self.from {
+        if n < self.pages.from() {
             return Ok(Wrote::Old);
         }
         if n < end {
@@ -125,7 +118,7 @@ impl Tail {
         requires { self.old.numbers.end + 1 < 2 ^ 64 }
         ensures { self.new ≡ (if is_ok result then added self.old x.now else self.old) }
     {
-        self.items.push(*x)?;
+        self.pages.push(x)?;
         self.stored = self.stored.saturating_add(1);
         Ok(())
     }
@@ -135,14 +128,21 @@ impl Tail {
         ensures answer { result ≡ shown_at self.now n }
         ensures standing { (list : List Element) (most : ℕ) → Stands list most self.now → IsOf list n result }
     {
-        if n < self.from {
-            return Shown::Below { from: self.from };
+        let from = self.pages.from();
+        if n < from {
+            return Shown::Below { from };
         }
+        if n < self.end() {
+            return Shown::Item(self.pages.get(n));
+        }
+        self.past_end()
+    }
+
+    /// What is told of a number past the last element.
+    fn past_end(&self) -> Shown
+        ensures { result ≡ past_end self.now.numbers }
+    {
         let end = self.end();
-        if n < end {
-            let place = self.dropped + (n - self.from) as usize;
-            return Shown::Item(self.items[place]);
-        }
         if self.torn {
             Shown::Torn { end }
         } else {
@@ -150,30 +150,19 @@ impl Tail {
         }
     }
 
-    /// The elements that aren't known to be stored, at most so many, and the number of the first of them.
-    pub fn batch(&self, most: u32) -> (u64, &[Element])
-        ensures from { result.0 ≡ batch_from self.now.numbers }
-        ensures items { result.1.now ≡ batch_items self.now most }
-        ensures count { length result.1.now ≡ batch_len self.now.numbers most }
+    /// The elements that aren't known to be stored, at most so many.
+    pub fn batch(&self, most: u32) -> Batch<'_>
+        requires most { most ≤ 64 }
+        ensures from { result.from ≡ batch_from self.now.numbers }
+        ensures items { result.first.now ++ result.rest.now ≡ batch_items self.now most }
+        ensures count { length (result.first.now ++ result.rest.now) ≡ batch_len self.now.numbers most }
         ensures standing { (list : List Element) (limit : ℕ) → Stands list limit self.now →
-            result.1.now ≡ part result.0 (length result.1.now) list }
+            result.first.now ++ result.rest.now
+                ≡ part result.from (length (result.first.now ++ result.rest.now)) list }
     {
-        let from = self.seen.max(self.from);
-        (from, self.items_from(from, most))
-    }
-
-    /// At most so many elements from this number on.
-    fn items_from(&self, from: u64, most: u32) -> &[Element]
-        requires { self.now.numbers.from ≤ from }
-        ensures { result.now ≡ take most (drop (from - self.now.numbers.from) self.now.items) }
-    {
-        let end = self.end();
-        if from >= end {
-            return &self.items[..0];
-        }
-        let count = (end - from).min(most as u64) as usize;
-        let first = self.dropped + (from - self.from) as usize;
-        &self.items[first..first + count]
+        let from = self.seen.max(self.pages.from());
+        let (first, rest) = self.pages.slices(from, most as usize);
+        Batch { from, first, rest }
     }
 
     /// Tells the tail that so many elements of the stream are stored.
@@ -191,35 +180,13 @@ impl Tail {
         ensures standing { (list : List Element) (most : ℕ) → Stands list most self.old → Stands list most self.new }
     {
         self.drop_below(m);
-        self.settle();
     }
 
-    /// Drops the elements below number `m`, and leaves them in the vector.
     fn drop_below(&mut self, m: u64)
         ensures { self.new ≡ trimmed self.old m }
     {
-        let from = self.from.max(m.min(self.end()));
-        self.dropped += (from - self.from) as usize;
-        self.from = from;
-    }
-
-    /// Moves the elements to the front of the vector where the dropped ones are more than half of it.
-    fn settle(&mut self)
-        ensures { self.new ≡ self.old }
-    {
-        if self.dropped > self.items.len() / 2 {
-            self.compact();
-        }
-    }
-
-    /// Takes the dropped elements out of the vector.
-    fn compact(&mut self)
-        ensures { self.new ≡ self.old }
-    {
-        let held = self.held();
-        self.items.rotate_left(self.dropped);
-        self.items.truncate(held);
-        self.dropped = 0;
+        let from = self.pages.from().max(m.min(self.pages.end()));
+        self.pages.drop_below(from);
     }
 
     /// Drops all elements, and goes on with the number that was last told to be stored; answers how many were dropped.
@@ -228,7 +195,7 @@ impl Tail {
         ensures count { result ≡ self.old.numbers.end - self.old.numbers.from }
         ensures standing { (list : List Element) (most : ℕ) → Stands list most self.old → Stands list most self.new }
     {
-        let lost = self.held() as u64;
+        let lost = self.end() - self.from();
         self.restart(self.seen);
         lost
     }
@@ -238,9 +205,7 @@ impl Tail {
         ensures restarted { self.new ≡ begun_at self.old m }
         ensures standing { (list : List Element) (most : ℕ) → m ≤ length list → m ≤ most → Stands list most self.new }
     {
-        self.items.clear();
-        self.dropped = 0;
-        self.from = m;
+        self.pages.begin_at(m);
         self.seen = m;
         self.torn = true;
     }

@@ -1,7 +1,7 @@
 //! Collection between any two acts of a schedule: what comes of the others is the same, but where a replica that is
 //! behind finds an element gone.
 use ss_fail::{Act, Outcome};
-use ss_test_jobs::{
+use fixtures::{
     Expected, FILE, JOB, LINES, PASS, Running, S, TAKE, W, behind, collect, crash, flush, flushed,
     gone, got, kept, known, load, loaded, lose, lost, read, snap, stored, three, took, trim, write,
 };

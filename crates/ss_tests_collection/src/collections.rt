@@ -1,6 +1,6 @@
 //! What no recovery needs is dropped, and nothing else.
 use ss_fail::Outcome;
-use ss_test_jobs::{
+use fixtures::{
     Expected, FILE, JOB, PASS, Running, S, TAKE, Told, W, base, collect, crash, flush, flushed,
     gone, got, has_put, kept, leave_behind, load, loaded, lose, lost, low, make_all, mark,
     play_all, read, rows, snap, stored, take, tells, three, took, trim, write,

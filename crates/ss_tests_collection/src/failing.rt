@@ -2,7 +2,7 @@
 use ss_engine::EngineFault;
 use ss_fail::{Act, Outcome};
 use ss_outside::DepotCall;
-use ss_test_jobs::{
+use fixtures::{
     Expected, FILE, PASS, Running, S, Trouble, W, collect, flush, flushed, got, kept, make_all,
     meets, read, snap, stored, take, three, took, trim, write,
 };

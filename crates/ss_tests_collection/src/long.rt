@@ -1,6 +1,6 @@
 //! A long job, by acts, of which only so much is stored at a time.
 use ss_fail::Outcome;
-use ss_test_jobs::{
+use fixtures::{
     PASS, Pair, Running, file_of_blocks, flush, line_count, pairs_of, read, snap, take, totals_of,
     write,
 };

@@ -1,6 +1,6 @@
 //! All that is in memory is lost at once, and the job is driven to its end from what is stored.
 use ss_fail::Outcome;
-use ss_test_jobs::{
+use fixtures::{
     Expected, FILE, JOB, LINES, PASS, Running, S, TAKE, Told, W, flush, flushed, got, has_put,
     leave_behind, load, loaded, make_all, read, stored, tells, took, write,
 };

@@ -2,7 +2,7 @@
 use ss_engine::EngineFault;
 use ss_fail::Outcome;
 use ss_outside::DepotCall;
-use ss_test_jobs::{
+use fixtures::{
     Expected, FILE, JOB, Running, S, Trouble, flush, got, make_all, meets, read, stored, write,
 };
 use ss_vault::VaultFault;

@@ -1,6 +1,6 @@
 //! All that is in memory is lost, and the job is driven to its end from what is stored.
 use ss_fail::Outcome;
-use ss_test_jobs::{
+use fixtures::{
     FILE, JOB, LINES, Running, S, TAKE, Told, W, crash, flush, flushed, got, has_put, kept, load,
     loaded, lose, lost, make_all, old, read, snap, stored, tells, took, write,
 };

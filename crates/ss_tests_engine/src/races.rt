@@ -1,6 +1,6 @@
 //! Replicas that go on from different snapshots.
 use ss_fail::Outcome;
-use ss_test_jobs::{
+use fixtures::{
     FILE, JOB, LINES, Running, S, TAKE, W, crash, flush, flushed, got, has_put, kept, known, load,
     loaded, make_all, read, snap, stored, took, write,
 };

@@ -1,6 +1,6 @@
 //! Short runs whose outcomes were worked out by hand.
 use ss_fail::Outcome;
-use ss_test_jobs::{
+use fixtures::{
     Expected, FILE, JOB, Running, S, TAKE, Told, W, crash, flush, flushed, got, has_put, kept,
     known, load, loaded, lose, lost, make_all, old, play_all, read, snap, stored, tells, three,
     took, write,

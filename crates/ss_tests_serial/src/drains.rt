@@ -1,6 +1,6 @@
 //! All that is in memory is lost somewhere in a schedule, and the job is then brought to its end.
 use crate::driving::finish_alone;
-use ss_test_jobs::{Expected, FILE, JOB, LINES, Running, behind, has_put, make_all, three};
+use fixtures::{Expected, FILE, JOB, LINES, Running, behind, has_put, make_all, three};
 use std::alloc::Global;
 use std::test::Fail;
 

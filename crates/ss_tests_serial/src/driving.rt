@@ -1,7 +1,7 @@
 //! The driver, on a running job under test.
 use ss_fail::Trigger;
 use ss_serial::{SerialFault, finish, round};
-use ss_test_jobs::Running;
+use fixtures::Running;
 
 /// No failure is listed.
 const NONE: [Trigger; 0] = [];

@@ -2,7 +2,7 @@
 use crate::driving::finish_alone;
 use ss_outside::DepotCall;
 use ss_serial::SerialFault;
-use ss_test_jobs::{FILE, JOB, LINES, O, Running, S, Trouble, W, has_put, leave_behind, rows};
+use fixtures::{FILE, JOB, LINES, O, Running, S, Trouble, W, has_put, leave_behind, rows};
 use ss_vault::VaultFault;
 use std::alloc::Global;
 use std::test::Fail;

@@ -1,6 +1,6 @@
 //! A long job, driven round by round, of which only so much is held at a time.
 use crate::driving::one_round;
-use ss_test_jobs::{Pair, Running, file_of_blocks, line_count, pairs_of, totals_of};
+use fixtures::{Pair, Running, file_of_blocks, line_count, pairs_of, totals_of};
 use std::test::Fail;
 
 /// A select takes two of the nine rows of each block. A window of two blocks sums them up, and a join has them beside

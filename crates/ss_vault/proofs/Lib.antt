@@ -6,6 +6,7 @@ pub mod Wholes
 pub mod Files
 pub mod Took
 pub mod Kept
+pub mod AppendedBoth
 pub mod Appending
 pub mod Coded
 pub mod Looking

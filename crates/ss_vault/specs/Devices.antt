@@ -34,6 +34,14 @@ GivesWhole old new v n value (Err (fault.Damaged w m)) =
 GivesWhole old new v n value (Err fault.Halted) = ⊥
 GivesWhole old new v n value (Err fault.Memory) = Leaves old new old.contents
 
+-- want of memory is told of no record that lacks bytes
+abbrev pub IsOfNoShort : DepotTold → DepotTold → VaultFault → Type 0
+IsOfNoShort old new (fault.Store count) = Unit {0}
+IsOfNoShort old new (fault.Output count) = Unit {0}
+IsOfNoShort old new (fault.Damaged v n) = Unit {0}
+IsOfNoShort old new fault.Halted = Unit {0}
+IsOfNoShort old new fault.Memory = new.shorts ≡ old.shorts
+
 -- these records went behind those of v, and nothing else changed
 pub record HasMore (old new : Contents) (v : ℕ) (more : List (List ℕ)) : Type 0 where
   pub first : (w : ℕ) → new.first w ≡ old.first w

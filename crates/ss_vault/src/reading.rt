@@ -1,8 +1,9 @@
-ghost use Rattle.std.specs.Prelude.{◌≡◌, ◌≤◌, ◌<◌, None, IfOk};
+ghost use Rattle.std.specs.Prelude.{◌≡◌, ◌≤◌, ◌<◌, None, IfErr, IfOk};
 ghost use Rattle.ss_frames.specs.Plans.{plan_numbers};
 ghost use Rattle.ss_frames.specs.Snapshot.{IsSnapshot};
 ghost use Rattle.ss_state.specs.Numbers.{IsOperator, IsStream};
 ghost use Rattle.ss_vault.specs.Calls.{Fetches, Reads};
+ghost use Rattle.ss_vault.specs.Devices.{IsOfNoShort};
 ghost use Rattle.ss_vault.specs.Sound.{Sound};
 ghost use Rattle.ss_vault.specs.Steps.{LooksUp};
 
@@ -27,6 +28,7 @@ impl<O: Outputs, D: Depot> Vault<O, D> {
         ensures sound { Sound plan.now (vault_told O.told D.told self.new) }
         ensures answer { Reads plan.now v n
             (vault_told O.told D.told self.old) result (vault_told O.told D.told self.new) }
+        ensures whole { IfErr result (IsOfNoShort (D.told self.old.depot) (D.told self.new.depot)) }
         ensures outputs { (vault_told O.told D.told self.new).outputs ≡ (vault_told O.told D.told self.old).outputs }
     {
         if self.halted.is_some() {
@@ -57,6 +59,7 @@ impl<O: Outputs, D: Depot> Vault<O, D> {
         ensures answer { LooksUp plan.now v n
             (vault_told O.told D.told self.old) result (vault_told O.told D.told self.new) }
         ensures numbers { self.new.numbers ≡ self.old.numbers }
+        ensures whole { IfErr result (IsOfNoShort (D.told self.old.depot) (D.told self.new.depot)) }
         ensures outputs { (vault_told O.told D.told self.new).outputs ≡ (vault_told O.told D.told self.old).outputs }
     {
         plan_facts(plan);

@@ -1,10 +1,10 @@
 //! Records on their way to a depot and from it.
-ghost use Rattle.std.specs.Prelude.{◌≡◌, ◌+◌, ◌<◌, ◌^◌, All, IsSome, OnOk, Some, length};
+ghost use Rattle.std.specs.Prelude.{◌≡◌, ◌+◌, ◌++◌, ◌<◌, ◌^◌, All, IfErr, IsSome, OnOk, Some, length};
 ghost use Rattle.ss_codec.specs.Record.{HasRecord, record_bytes};
 ghost use Rattle.ss_elem.specs.Validity.{next_bound};
 ghost use Rattle.ss_elem.specs.declared.element.Element.{Element};
 ghost use Rattle.ss_outside.specs.Depot.{next_number, record_at, with_record};
-ghost use Rattle.ss_vault.specs.Devices.{AppendsSome, GivesWhole, StoresCode};
+ghost use Rattle.ss_vault.specs.Devices.{AppendsSome, GivesWhole, IsOfNoShort, StoresCode};
 
 use crate::fault::VaultFault;
 use ss_codec::{get_element, put_element};
@@ -33,6 +33,29 @@ pub(crate) fn append_all<D: Depot>(
         }
     }
     (count, None)
+}
+
+/// The same, of elements that lie in two slices.
+pub(crate) fn append_both<D: Depot>(
+    depot: &mut D,
+    v: u32,
+    n: u64,
+    first: &[Element],
+    rest: &[Element],
+    buffer: &mut Vec<u8>,
+) -> (u64, Option<VaultFault>)
+    requires vertex { v < 32 }
+    requires next { n ≡ next_number (D.told depot.old).contents v }
+    requires fit { n + length (first.now ++ rest.now) < 2 ^ 64 }
+    requires firsts { All (λ x. IsSome (next_bound 0 x)) (first.now ++ rest.now) }
+    ensures { AppendsSome (D.told depot.old) (D.told depot.new) v n (first.now ++ rest.now) result.0 result.1 }
+{
+    let (count, stop) = append_all(depot, v, n, first, buffer);
+    if stop.is_some() {
+        return (count, stop);
+    }
+    let (more, end) = append_all(depot, v, n + count, rest, buffer);
+    (count + more, end)
 }
 
 /// Appends the record of element `n` of stream `v`.
@@ -73,8 +96,9 @@ pub(crate) fn fetch_element<D: Depot>(
 ) -> Result<Element, VaultFault>
     requires vertex { v < 32 }
     requires held { IsSome (record_at (D.told depot.old).contents v n) }
-    ensures { (x : Element) → HasRecord x → record_at (D.told depot.old).contents v n ≡ Some (record_bytes v n x)
+    ensures gives { (x : Element) → HasRecord x → record_at (D.told depot.old).contents v n ≡ Some (record_bytes v n x)
         → GivesWhole (D.told depot.old) (D.told depot.new) v n x result }
+    ensures whole { IfErr result (IsOfNoShort (D.told depot.old) (D.told depot.new)) }
 {
     match depot.fetch(v, n, buffer) {
         Ok(()) => (),

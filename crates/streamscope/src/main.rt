@@ -2,35 +2,19 @@
 #![tactic(auto)]
 
 ghost use Rattle.std.specs.IoError.{error_kind};
-ghost use Rattle.std.specs.Prelude.{◌≡◌, ◌⊎◌, ◌↔◌, drop, map, string_bytes, IfOk, OnErr};
+ghost use Rattle.std.specs.Prelude.{◌≡◌, ◌⊎◌, ◌↔◌, drop, map, string_bytes, IfErr, IfOk, OnErr};
 ghost use Rattle.ss_outside.specs.Depot.{no_contents};
 ghost use Rattle.ss_vault.specs.Calls.{HaveNoBytes};
 ghost use Rattle.ss_words.specs.Words.{command_of};
-ghost use Rattle.streamscope.specs.Ends.{Ends, TellsNoWords};
-ghost use Rattle.streamscope.specs.Seen.{seen};
+ghost use Rattle.ss_command.specs.Ends.{Ends, TellsNoWords};
+ghost use Rattle.ss_command.specs.Seen.{seen};
 ghost use Rattle.std.specs.Vec.Iter.{into_iter_items};
 ghost use Rattle.std.specs.Process.{exit_status};
 
-mod check;
-mod computed;
-mod outside;
-mod perform;
-mod plain;
-mod plans;
-mod play;
-mod read;
-mod run;
-mod sinks;
-mod sources;
-mod summary;
-mod telling;
 #[cfg(test)]
 mod tests;
-mod work;
-mod write;
 
-use crate::outside::Outside;
-use crate::perform::{perform, refuse};
+use ss_command::{Outside, perform, refuse};
 use ss_outside::{Depot, FileInputs, FileOutputs, Inputs, MemDepot, Outputs};
 use ss_report::Fault;
 use std::alloc::{AllocError, Global};
@@ -62,6 +46,7 @@ fn perform_all<I: Inputs, O: Outputs, D: Depot>(
         (seen I.told O.told D.told outside) (seen I.told O.told D.told result.1) (exit_status result.0)) }
     ensures none { OnErr words
         (TellsNoWords (O.told outside.outputs) (O.told result.1.outputs) (exit_status result.0)) }
+    ensures memory { IfErr words (λ error. error_kind error ≡ ErrorKind.OutOfMemory ↔ exit_status result.0 ≡ 10) }
     ensures depot { OnErr words (D.told result.1.depot ≡ D.told outside.depot) }
 {
     match words {

@@ -32,7 +32,7 @@ accept-requires-clause-element g c =
       ap (λ (xs : List Element). slice_get xs c.in-Item.n)
           (numbered.listed c.requires.source c.in-Item.input ∙ (c.act_facts.ensures.meant.sources inst.v c.requires.source).1
           ∙ ap (λ (n : ℕ). source_list plan n) (sym c.v-v.ensures))
-          ∙ c.source_at-x.ensures,
+          ∙ c.listed-x.ensures,
       within.1,
     )
 

@@ -1,6 +1,6 @@
-use Rattle.std.proofs.Common.{subst, sym}
+use Rattle.std.proofs.Common.{Some, subst, sym}
 use Rattle.ss_acts.specs.Calls.{TakesLine}
-use Rattle.ss_acts.specs.Leaves.{PutsToSinksAlone}
+use Rattle.ss_acts.specs.Leaves.{PutsBy}
 use Rattle.ss_frames.specs.Plans.{plan_numbers}
 use Rattle.ss_plan.specs.Plan.{PlanText}
 use Rattle.ss_state.specs.Numbers.{IsSink}
@@ -28,4 +28,4 @@ returns g c =
     (subst (λ (plan : PlanText). Sound plan u) c.deref.ensures c.act_take.ensures.sound)
     (subst (λ (plan : PlanText). TakesLine plan c.args.k p.vault result u) c.deref.ensures c.act_take.ensures.answer)
     c.act_take.ensures.asks
-    (subst (λ (plan : PlanText). PutsToSinksAlone plan p.vault u) c.deref.ensures c.act_take.ensures.outputs)
+    (subst (λ (plan : PlanText). PutsBy plan (Some c.args.k) p.vault result u) c.deref.ensures c.act_take.ensures.outputs)

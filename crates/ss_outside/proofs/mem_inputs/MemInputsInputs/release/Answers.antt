@@ -12,4 +12,4 @@ returns-in-Some-clause-releases c =
     let files = c.get_mut.follows.lender file in
     let here : (other : List ℕ) → mem_file (record inputs { files = files }) other ≡ changed_at c.args.name.now (with_mark c.args.mark) (mem_file inputs) other
     = λ other. grind (arith, text_keys) in
-    record { file = λ i other. here other i; missed = refl; faults = refl }
+    record { file = λ i other. here other i; missed = refl; faults = omega arith }

@@ -23,7 +23,7 @@ returns-in-Ok-clause-sound g c =
     let u : VaultTold = record s { depot = g.D.Depot.told c.fetch_element.new.depot } in
     let rests : Rests s u = record { numbers = refl; snaps = refl; ended = refl; started = refl; outputs = refl } in
     let at : StoredAt c.args.plan.now s c.args.v c.args.n = stored_at c.args.plan.now c.plan_facts.ensures s c.args.v c.args.n c.requires.sound c.requires.stream c.requires.base c.requires.dur in
-    (gave c.args.plan.now s u c.args.v c.args.n at.x c.in-Ok.x c.requires.sound c.requires.going rests c.requires.going (c.in-Ok.ensures at.x at.has at.at)).1
+    (gave c.args.plan.now s u c.args.v c.args.n at.x c.in-Ok.x c.requires.sound c.requires.going rests c.requires.going (c.in-Ok.ensures.gives at.x at.has at.at)).1
 
 pub returns-in-Ok-clause-answer : goal.returns-in-Ok-clause-answer
 returns-in-Ok-clause-answer g c =
@@ -32,7 +32,7 @@ returns-in-Ok-clause-answer g c =
     let u : VaultTold = record s { depot = g.D.Depot.told c.fetch_element.new.depot } in
     let rests : Rests s u = record { numbers = refl; snaps = refl; ended = refl; started = refl; outputs = refl } in
     let at : StoredAt c.args.plan.now s c.args.v c.args.n = stored_at c.args.plan.now c.plan_facts.ensures s c.args.v c.args.n c.requires.sound c.requires.stream c.requires.base c.requires.dur in
-    let all = gave c.args.plan.now s u c.args.v c.args.n at.x c.in-Ok.x c.requires.sound c.requires.going rests c.requires.going (c.in-Ok.ensures at.x at.has at.at) in
+    let all = gave c.args.plan.now s u c.args.v c.args.n at.x c.in-Ok.x c.requires.sound c.requires.going rests c.requires.going (c.in-Ok.ensures.gives at.x at.has at.at) in
     (at.is_item ∙ ap (λ x. Some x) (sym all.0), all.2)
 
 pub returns-in-Err-clause-sound : goal.returns-in-Err-clause-sound
@@ -42,7 +42,7 @@ returns-in-Err-clause-sound g c =
     let u : VaultTold = record s { halted = c.halts-self.result; depot = g.D.Depot.told c.fetch_element.new.depot } in
     let rests : Rests s u = record { numbers = refl; snaps = refl; ended = refl; started = refl; outputs = refl } in
     let at : StoredAt c.args.plan.now s c.args.v c.args.n = stored_at c.args.plan.now c.plan_facts.ensures s c.args.v c.args.n c.requires.sound c.requires.stream c.requires.base c.requires.dur in
-    (gave_fault c.args.plan.now s u c.args.v c.args.n at.x c.in-Err.fault c.requires.sound c.requires.going rests c.halts-self.ensures (c.in-Err.ensures at.x at.has at.at)).0
+    (gave_fault c.args.plan.now s u c.args.v c.args.n at.x c.in-Err.fault c.requires.sound c.requires.going rests c.halts-self.ensures (c.in-Err.ensures.gives at.x at.has at.at)).0
 
 pub returns-in-Err-clause-answer : goal.returns-in-Err-clause-answer
 returns-in-Err-clause-answer g c =
@@ -51,5 +51,5 @@ returns-in-Err-clause-answer g c =
     let u : VaultTold = record s { halted = c.halts-self.result; depot = g.D.Depot.told c.fetch_element.new.depot } in
     let rests : Rests s u = record { numbers = refl; snaps = refl; ended = refl; started = refl; outputs = refl } in
     let at : StoredAt c.args.plan.now s c.args.v c.args.n = stored_at c.args.plan.now c.plan_facts.ensures s c.args.v c.args.n c.requires.sound c.requires.stream c.requires.base c.requires.dur in
-    let all = gave_fault c.args.plan.now s u c.args.v c.args.n at.x c.in-Err.fault c.requires.sound c.requires.going rests c.halts-self.ensures (c.in-Err.ensures at.x at.has at.at) in
+    let all = gave_fault c.args.plan.now s u c.args.v c.args.n at.x c.in-Err.fault c.requires.sound c.requires.going rests c.halts-self.ensures (c.in-Err.ensures.gives at.x at.has at.at) in
     (all.1, all.2)

@@ -1,6 +1,0 @@
-use Rattle.std.proofs.Common.{◌≡◌}
-use Rattle.streamscope.specs.Output.{vertex_lines}
-use Rattle.streamscope.proofs.check.lines_of.Given as goal
-
-abbrev pub invariant-loop-v : goal.invariant-loop-v
-invariant-loop-v l = l.text.items ≡ vertex_lines l.job l.v

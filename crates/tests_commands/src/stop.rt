@@ -1,0 +1,47 @@
+//! Why a case doesn't pass.
+use cases::{CasesFault, CasesWhy, Field};
+use std::alloc::{AllocError, AllocFailed};
+
+/// Why a case doesn't pass.
+#[derive(Drop)]
+pub(crate) enum Stop {
+    /// Something else came than was wanted.
+    Differs(String),
+    /// The case says nothing that can be done.
+    Malformed(CasesFault),
+    Memory,
+}
+
+impl From<AllocError> for Stop {
+    fn from(_: AllocError) -> Stop {
+        Stop::Memory
+    }
+}
+
+impl<T: Drop> From<AllocFailed<T>> for Stop {
+    fn from(_: AllocFailed<T>) -> Stop {
+        Stop::Memory
+    }
+}
+
+impl From<CasesFault> for Stop {
+    fn from(fault: CasesFault) -> Stop {
+        Stop::Malformed(fault)
+    }
+}
+
+/// The words of a field aren't those that it takes.
+pub(crate) fn bad_words(field: &Field) -> Stop {
+    Stop::Malformed(CasesFault::At {
+        line: field.line,
+        why: CasesWhy::BadWords,
+    })
+}
+
+/// A field that no case has.
+pub(crate) fn unknown(field: &Field) -> Stop {
+    Stop::Malformed(CasesFault::At {
+        line: field.line,
+        why: CasesWhy::UnknownField,
+    })
+}
