@@ -86,6 +86,8 @@ fn key_of(field: FieldName) -> &'static [u8]
         FieldName::Where => b"where",
         FieldName::A => b"a",
         FieldName::B => b"b",
+        FieldName::C => b"c",
+        FieldName::D => b"d",
         FieldName::Size => b"size",
         FieldName::Hop => b"hop",
         FieldName::Agg => b"agg",
