@@ -1,9 +1,9 @@
 -- Elements in pages of 64 numbers each: what a place among all is in a page.
-use Rattle.std.proofs.Common.{◌≡◌, ◌≢◌, ℕ, zero, suc, ◌+◌, ◌-◌, ◌*◌, ◌/◌, ◌%◌, ◌<◌, ◌≤◌, min, List, [], ◌∷◌, ◌++◌, length, get_or, take, drop, set, Some, None, Bool, true, false, Result, Ok, Err, is_ok, OnOk, if◌then◌else◌, refl, sym, ap, ap₂, subst, ◌∙◌, arith, inl, inr}
+use Rattle.std.proofs.Common.{◌≡◌, ℕ, zero, suc, ◌+◌, ◌-◌, ◌*◌, ◌/◌, ◌%◌, ◌<◌, ◌≤◌, List, [], ◌∷◌, ◌++◌, length, get_or, take, drop, set, Some, None, Bool, true, false, Result, Ok, Err, is_ok, OnOk, if◌then◌else◌, refl, sym, ap, ap₂, subst, ◌∙◌, arith, inl, inr}
 use Rattle.std.specs.Prelude.{slice_get}
 use Rattle.std.proofs.lemmas.Bool.{cases_lt}
 use Rattle.std.proofs.lemmas.Bool.Decides.{nat_tests}
-use Rattle.std.proofs.lemmas.List.{append-nil, append_assoc, nil_from_length, set-get_or, drop-append-le, drop-drop, drop_all, drop_at, drop_more, get_or-drop, length-append, length-drop, length-take, take-append-drop, take-append-le, take_all, take_at, take_min}
+use Rattle.std.proofs.lemmas.List.{append-nil, append_assoc, nil_from_length, set-get_or, drop-append-le, drop-drop, drop_all, drop_at, drop_more, get_or-drop, length-append, length-drop, length-take, take-append-le}
 use Rattle.ss_elem.specs.declared.element.Element.{Element}
 use Rattle.ss_tail.specs.Pages.{AddsPage, AreFull, ArePages, joined, page_count, with_more}
 
