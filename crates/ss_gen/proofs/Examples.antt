@@ -1,5 +1,5 @@
 -- Lines worked out apart from these definitions, by a program of a few lines in another language.
-use Rattle.std.proofs.Common.{◌≡◌, ℕ, codes, refl}
+use Rattle.std.proofs.Common.{◌≡◌, codes, refl}
 use Rattle.std.specs.Fmt.{digits}
 use Rattle.ss_gen.specs.Draws.{draw}
 use Rattle.ss_gen.specs.Events.{cti_text, drawn_of, row_text}

@@ -1,5 +1,5 @@
 -- The lines of rows, one row more.
-use Rattle.std.proofs.Common.{◌≡◌, ◌∙◌, ℕ, suc, ◌+◌, List, [], ◌++◌, Result, Ok, Err, refl, ap, sym, arith, append_assoc}
+use Rattle.std.proofs.Common.{◌≡◌, ◌∙◌, ℕ, suc, ◌+◌, List, ◌++◌, Result, Ok, Err, ap, sym, arith, append_assoc}
 use Rattle.std.specs.Prelude.{OnErr}
 use Rattle.std.proofs.lemmas.List.{append-nil}
 use Rattle.ss_gen.specs.Events.{Drawn, cti_text, drawn_of, row_text, rows_text}

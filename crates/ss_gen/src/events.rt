@@ -6,8 +6,8 @@ ghost use Rattle.ss_gen.specs.Texts.{Extends};
 
 use crate::Memory;
 use crate::draws::Draws;
-use crate::row::Row;
 use crate::put::put;
+use crate::row::Row;
 use itoa::Buffer;
 
 /// How many rows a file has.

@@ -1,9 +1,9 @@
 -- Elements in pages of 64 numbers each: what a place among all is in a page.
-use Rattle.std.proofs.Common.{◌≡◌, ◌≢◌, ℕ, zero, suc, ◌+◌, ◌-◌, ◌*◌, ◌/◌, ◌%◌, ◌<◌, ◌≤◌, min, List, [], ◌∷◌, ◌++◌, length, get_or, take, drop, set, Some, None, Bool, true, false, Result, Ok, Err, is_ok, OnOk, if◌then◌else◌, refl, sym, ap, ap₂, subst, ◌∙◌, arith, inl, inr}
+use Rattle.std.proofs.Common.{◌≡◌, ℕ, zero, suc, ◌+◌, ◌-◌, ◌*◌, ◌/◌, ◌%◌, ◌<◌, ◌≤◌, List, [], ◌∷◌, ◌++◌, length, get_or, take, drop, set, Some, None, Bool, true, false, Result, Ok, Err, is_ok, OnOk, if◌then◌else◌, refl, sym, ap, ap₂, subst, ◌∙◌, arith, inl, inr}
 use Rattle.std.specs.Prelude.{slice_get}
 use Rattle.std.proofs.lemmas.Bool.{cases_lt}
 use Rattle.std.proofs.lemmas.Bool.Decides.{nat_tests}
-use Rattle.std.proofs.lemmas.List.{append-nil, append_assoc, nil_from_length, set-get_or, drop-append-le, drop-drop, drop_all, drop_at, drop_more, get_or-drop, length-append, length-drop, length-take, take-append-drop, take-append-le, take_all, take_at, take_min}
+use Rattle.std.proofs.lemmas.List.{append-nil, append_assoc, nil_from_length, set-get_or, drop-append-le, drop-drop, drop_all, drop_at, drop_more, get_or-drop, length-append, length-drop, length-take, take-append-le}
 use Rattle.ss_elem.specs.declared.element.Element.{Element}
 use Rattle.ss_tail.specs.Pages.{AddsPage, AreFull, ArePages, joined, page_count, with_more}
 
@@ -81,7 +81,7 @@ front_page (page ∷ next ∷ pages) n full few =
 -- at most so many elements from place k on are in page q and in the next
 pub slices_are : (pages : List (List Element)) (q j k most : ℕ) → IsPlace pages q j k → most ≤ 64
     → take most (drop j (get_or pages q [])) ++ take (most - length (take most (drop j (get_or pages q [])))) (get_or pages (q + 1) [])
-      ≡ take most (drop k (joined pages))
+    ≡ take most (drop k (joined pages))
 slices_are pages q j k most place few =
     let first : List Element = drop j (get_or pages q []) in
     let next : List Element = get_or pages (q + 1) [] in
@@ -149,22 +149,25 @@ pub more_on_last : (pages : List (List Element)) (x : Element) (c r : ℕ) → A
     → 0 < r → r < 64 → AreFull (with_more pages x) × (joined (with_more pages x) ≡ joined pages ++ x ∷ []) × (length (with_more pages x) ≡ length pages)
 more_on_last [] x c r full is some room = absurd (omega (arith, is, some))
 more_on_last (page ∷ []) x c r full is some room =
-    let least = full.0 in let most = full.1 in
-    ((omega (arith, length-append page (x ∷ [])), omega (arith, length-append page (x ∷ []), length-append page [], is, some, room, least, most)),
-     append_assoc page (x ∷ []) [] ∙ sym (ap (λ (xs : List Element). xs ++ x ∷ []) (append-nil page)),
-     refl)
+    let least = full.0 in let most = full.1 in (
+      (omega (arith, length-append page (x ∷ [])), omega (arith, length-append page (x ∷ []), length-append page [], is, some, room, least, most)),
+      append_assoc page (x ∷ []) [] ∙ sym (ap (λ (xs : List Element). xs ++ x ∷ []) (append-nil page)),
+      refl,
+    )
 more_on_last (page ∷ next ∷ []) x c r full is some room =
     let long : length page ≡ 64 = full.0 in
-    let inner = more_on_last (next ∷ []) x (c - 1) r full.1 (omega (arith, is, length-append page (joined (next ∷ [])), long, some, room)) some room in
-    ((long, inner.0),
-     ap (λ (xs : List Element). page ++ xs) inner.1 ∙ sym (append_assoc page (joined (next ∷ [])) (x ∷ [])),
-     refl)
+    let inner = more_on_last (next ∷ []) x (c - 1) r full.1 (omega (arith, is, length-append page (joined (next ∷ [])), long, some, room)) some room in (
+      (long, inner.0),
+      ap (λ (xs : List Element). page ++ xs) inner.1 ∙ sym (append_assoc page (joined (next ∷ [])) (x ∷ [])),
+      refl,
+    )
 more_on_last (page ∷ next ∷ third ∷ pages) x c r full is some room =
     let long : length page ≡ 64 = full.0 in
-    let inner = more_on_last (next ∷ third ∷ pages) x (c - 1) r full.1 (omega (arith, is, length-append page (joined (next ∷ third ∷ pages)), long, some, room)) some room in
-    ((long, inner.0),
-     ap (λ (xs : List Element). page ++ xs) inner.1 ∙ sym (append_assoc page (joined (next ∷ third ∷ pages)) (x ∷ [])),
-     ap suc inner.2)
+    let inner = more_on_last (next ∷ third ∷ pages) x (c - 1) r full.1 (omega (arith, is, length-append page (joined (next ∷ third ∷ pages)), long, some, room)) some room in (
+      (long, inner.0),
+      ap (λ (xs : List Element). page ++ xs) inner.1 ∙ sym (append_assoc page (joined (next ∷ third ∷ pages)) (x ∷ [])),
+      ap suc inner.2,
+    )
 
 pub count_some : (from end : ℕ) → from < end → page_count from end ≡ (end - 1) / 64 - from / 64 + 1
 count_some from end some = grind (arith, nat_tests)
@@ -216,9 +219,10 @@ first_added from end place x pages new are empty is_place adds =
       long = λ _. all;
     } in
     let items : drop (from % 64) (page ++ []) ≡ x ∷ [] = ap₂ (λ (n : ℕ) (xs : List Element). drop n xs) there (append-nil page) ∙ adds.2 in
-    let none_before : drop (from % 64) (joined pages) ≡ [] = ap (λ (p : List (List Element)). drop (from % 64) (joined p)) none ∙ drop_all (from % 64) [] (omega arith) in
-    (subst (λ (p : List (List Element)). ArePages from (end + 1) p) (sym is_new) are_new,
-     ap (λ (p : List (List Element)). drop (from % 64) (joined p)) is_new ∙ items ∙ sym (ap (λ (xs : List Element). xs ++ x ∷ []) none_before))
+    let none_before : drop (from % 64) (joined pages) ≡ [] = ap (λ (p : List (List Element)). drop (from % 64) (joined p)) none ∙ drop_all (from % 64) [] (omega arith) in (
+      subst (λ (p : List (List Element)). ArePages from (end + 1) p) (sym is_new) are_new,
+      ap (λ (p : List (List Element)). drop (from % 64) (joined p)) is_new ∙ items ∙ sym (ap (λ (xs : List Element). xs ++ x ∷ []) none_before),
+    )
 
 -- an element that begins the next page
 pub next_added : (from end : ℕ) (x : Element) (pages new : List (List Element)) → ArePages from end pages → from < end → end % 64 ≡ 0
@@ -234,15 +238,16 @@ next_added from end x pages new are some begins adds =
     let more : AreFull (pages ++ page ∷ []) = more_pages pages page (end / 64 - from / 64) are.full whole (omega (arith, is_long)) (omega (arith, is_long)) in
     let last : (end - 1) / 64 + 1 ≡ (end + 1 - 1) / 64 = omega (arith, some, begins) in
     let count : length new ≡ page_count from (end + 1) = ap length adds.3 ∙ length-append pages (page ∷ [])
-        ∙ (let e : length pages + 1 ≡ (end + 1 - 1) / 64 - from / 64 + 1 = omega (arith, are.count, count_some from end some, some, last) in e)
-        ∙ sym (count_some from (end + 1) (omega (arith, some))) in
-    (record {
-      order = omega (arith, some);
-      count = count;
-      full = subst AreFull (sym adds.3) more;
-      long = λ _. ap length is_new ∙ length-append (joined pages) (x ∷ []) ∙ (let e : length (joined pages) + 1 ≡ from % 64 + (end + 1 - from) = omega (arith, long, some) in e);
-    },
-     ap (drop (from % 64)) is_new ∙ drop-append-le (from % 64) (joined pages) (x ∷ []) (omega (arith, long)))
+    ∙ (let e : length pages + 1 ≡ (end + 1 - 1) / 64 - from / 64 + 1 = omega (arith, are.count, count_some from end some, some, last) in e)
+    ∙ sym (count_some from (end + 1) (omega (arith, some))) in (
+      record {
+        order = omega (arith, some);
+        count = count;
+        full = subst AreFull (sym adds.3) more;
+        long = λ _. ap length is_new ∙ length-append (joined pages) (x ∷ []) ∙ (let e : length (joined pages) + 1 ≡ from % 64 + (end + 1 - from) = omega (arith, long, some) in e);
+      },
+      ap (drop (from % 64)) is_new ∙ drop-append-le (from % 64) (joined pages) (x ∷ []) (omega (arith, long)),
+    )
 
 -- an element in the last page
 pub last_added : (from end : ℕ) (x : Element) (pages : List (List Element)) → ArePages from end pages → from < end → 0 < end % 64
@@ -251,37 +256,39 @@ last_added from end x pages are some inside =
     let long : length (joined pages) ≡ from % 64 + (end - from) = are.long some in
     let parts : length (joined pages) ≡ 64 * (end / 64 - from / 64) + end % 64 = omega (arith, long, some) in
     let more = more_on_last pages x (end / 64 - from / 64) (end % 64) are.full parts inside (omega arith) in
-    let same : (end - 1) / 64 ≡ (end + 1 - 1) / 64 = omega (arith, some, inside) in
-    (record {
-      order = omega (arith, some);
-      count = more.2 ∙ are.count ∙ count_some from end some
-          ∙ ap (λ (n : ℕ). n - from / 64 + 1) same
-          ∙ sym (count_some from (end + 1) (omega (arith, some)));
-      full = more.0;
-      long = λ _. ap length more.1 ∙ length-append (joined pages) (x ∷ []) ∙ (let e : length (joined pages) + 1 ≡ from % 64 + (end + 1 - from) = omega (arith, long, some) in e);
-    },
-     ap (drop (from % 64)) more.1 ∙ drop-append-le (from % 64) (joined pages) (x ∷ []) (omega (arith, long)))
+    let same : (end - 1) / 64 ≡ (end + 1 - 1) / 64 = omega (arith, some, inside) in (
+      record {
+        order = omega (arith, some);
+        count = more.2 ∙ are.count ∙ count_some from end some
+            ∙ ap (λ (n : ℕ). n - from / 64 + 1) same
+            ∙ sym (count_some from (end + 1) (omega (arith, some)));
+        full = more.0;
+        long = λ _. ap length more.1 ∙ length-append (joined pages) (x ∷ []) ∙ (let e : length (joined pages) + 1 ≡ from % 64 + (end + 1 - from) = omega (arith, long, some) in e);
+      },
+      ap (drop (from % 64)) more.1 ∙ drop-append-le (from % 64) (joined pages) (x ∷ []) (omega (arith, long)),
+    )
 
 -- pages without the elements below number m
 pub fewer_are : (from m end : ℕ) (pages : List (List Element)) → ArePages from end pages → from ≤ m → m < end
     → ArePages m end (drop (m / 64 - from / 64) pages)
-      × (drop (m % 64) (joined (drop (m / 64 - from / 64) pages)) ≡ drop (m - from) (drop (from % 64) (joined pages)))
+    × (drop (m % 64) (joined (drop (m / 64 - from / 64) pages)) ≡ drop (m - from) (drop (from % 64) (joined pages)))
 fewer_are from m end pages are above below =
     let c : ℕ = m / 64 - from / 64 in
     let long : length (joined pages) ≡ from % 64 + (end - from) = are.long (omega (arith, above, below)) in
     let there : from % 64 + (m - from) ≡ c * 64 + m % 64 = omega (arith, above) in
     let fewer = fewer_pages pages c (c * 64) are.full refl (omega (arith, long, there, below, above)) in
-    let left : length (joined (drop c pages)) ≡ length (joined pages) - c * 64 = ap length fewer.1 ∙ length-drop (c * 64) (joined pages) in
-    (record {
-      order = omega (arith, below);
-      count = length-drop c pages
-          ∙ (let e : length pages - c ≡ (end - 1) / 64 - m / 64 + 1 = omega (arith, are.count, count_some from end (omega (arith, above, below)), above, below) in e)
-          ∙ sym (count_some m end below);
-      full = fewer.0;
-      long = λ _. omega (arith, left, long, there, below, above);
-    },
-     ap (drop (m % 64)) fewer.1 ∙ drop-drop (m % 64) (c * 64) (joined pages)
-     ∙ ap (λ (n : ℕ). drop n (joined pages)) (sym there) ∙ sym (drop-drop (m - from) (from % 64) (joined pages)))
+    let left : length (joined (drop c pages)) ≡ length (joined pages) - c * 64 = ap length fewer.1 ∙ length-drop (c * 64) (joined pages) in (
+      record {
+        order = omega (arith, below);
+        count = length-drop c pages
+            ∙ (let e : length pages - c ≡ (end - 1) / 64 - m / 64 + 1 = omega (arith, are.count, count_some from end (omega (arith, above, below)), above, below) in e)
+            ∙ sym (count_some m end below);
+        full = fewer.0;
+        long = λ _. omega (arith, left, long, there, below, above);
+      },
+      ap (drop (m % 64)) fewer.1 ∙ drop-drop (m % 64) (c * 64) (joined pages)
+          ∙ ap (λ (n : ℕ). drop n (joined pages)) (sym there) ∙ sym (drop-drop (m - from) (from % 64) (joined pages)),
+    )
 
 -- where an element is
 pub place_of : (from n end : ℕ) (pages : List (List Element)) → ArePages from end pages → from ≤ n → n < end
@@ -294,9 +301,10 @@ place_of from n end pages are above below =
 pub none_left : (from m end : ℕ) (pages : List (List Element)) → ArePages from end pages → from ≤ m → m ≡ end
     → ArePages m end [] × ([] ≡ drop (m - from) (drop (from % 64) (joined pages)))
 none_left from m end pages are above is =
-    let all = long_is from end pages are in
-    (subst (λ (n : ℕ). ArePages m n []) is (are_none m),
-     sym (drop_all (m - from) (drop (from % 64) (joined pages)) (omega (arith, all, is))))
+    let all = long_is from end pages are in (
+      subst (λ (n : ℕ). ArePages m n []) is (are_none m),
+      sym (drop_all (m - from) (drop (from % 64) (joined pages)) (omega (arith, all, is))),
+    )
 
 -- what is added to the last page
 pub set_more : (pages : List (List Element)) (page : List Element) (x : Element) → 0 < length pages → page ≡ get_or pages (length pages - 1) page

@@ -158,7 +158,7 @@ impl Tail {
         ensures count { length (result.first.now ++ result.rest.now) ≡ batch_len self.now.numbers most }
         ensures standing { (list : List Element) (limit : ℕ) → Stands list limit self.now →
             result.first.now ++ result.rest.now
-                ≡ part result.from (length (result.first.now ++ result.rest.now)) list }
+            ≡ part result.from (length (result.first.now ++ result.rest.now)) list }
     {
         let from = self.seen.max(self.pages.from());
         let (first, rest) = self.pages.slices(from, most as usize);

@@ -88,14 +88,7 @@ impl<O: Outputs, D: Depot> Vault<O, D> {
         run_facts();
         plan_facts(plan);
         let dur = self.numbers.dur(v);
-        let (count, stop) = append_both(
-            &mut self.depot,
-            v,
-            dur,
-            first,
-            rest,
-            &mut self.buffer,
-        );
+        let (count, stop) = append_both(&mut self.depot, v, dur, first, rest, &mut self.buffer);
         self.numbers.stored(v, count);
         match stop {
             None => Ok(Flush::Flushed {

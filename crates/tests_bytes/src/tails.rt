@@ -101,7 +101,10 @@ fn a_batch_begins_where_nothing_is_told_to_be_stored(rt: HostRuntime) -> Result<
     for (dur, most, from, count) in cases {
         tail.note(dur);
         let batch = tail.batch(most);
-        assert!(rt; batch.from == from && batch.first.len() == count, "{dur} {most}");
+        assert!(rt;
+            batch.from == from && batch.first.len() == count,
+            "{dur} {most}"
+        );
         assert!(rt; has_elements(&batch), "{dur} {most}");
     }
     let mut trimmed = tail_of(rt.alloc(), 5)?;
@@ -135,7 +138,15 @@ fn pages_come_with_their_first_element_and_go_with_their_last(rt: HostRuntime) -
     let mut tail = tail_of(rt.alloc(), 130)?;
     assert_eq!(rt; tail.pages(), 3);
     // In the middle of a page, up to its last element, a whole page, and all.
-    let cases = [(1, 3), (63, 3), (64, 2), (100, 2), (128, 1), (129, 1), (130, 0)];
+    let cases = [
+        (1, 3),
+        (63, 3),
+        (64, 2),
+        (100, 2),
+        (128, 1),
+        (129, 1),
+        (130, 0),
+    ];
     for (m, pages) in cases {
         tail.trim(m);
         assert!(rt; tail.pages() == pages && tail.from() == m, "{m}");
@@ -172,7 +183,10 @@ fn a_batch_goes_over_the_end_of_a_page(rt: HostRuntime) -> Result<(), Fail> {
         tail.note(dur);
         let batch = tail.batch(most);
         assert!(rt; batch.from == dur, "{dur} {most}");
-        assert!(rt; batch.first.len() == first && batch.rest.len() == rest, "{dur} {most}");
+        assert!(rt;
+            batch.first.len() == first && batch.rest.len() == rest,
+            "{dur} {most}"
+        );
         assert!(rt; has_elements(&batch), "{dur} {most}");
     }
     Ok(())

@@ -1,4 +1,4 @@
-use Rattle.std.proofs.Common.{◌≡◌, ℕ, suc, ◌+◌, ◌*◌, arith}
+use Rattle.std.proofs.Common.{◌≡◌, ℕ, ◌+◌, ◌*◌, arith}
 use Rattle.ss_gen.specs.Draws.{draw, state_after}
 use Rattle.ss_gen.proofs.Numbers.{number_is, one_more}
 use Rattle.ss_gen.proofs.events.drawn_row.Goals as goal

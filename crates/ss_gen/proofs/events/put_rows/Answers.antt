@@ -1,4 +1,4 @@
-use Rattle.std.proofs.Common.{◌≡◌, ◌∙◌, ℕ, ◌+◌, List, ◌++◌, ap, append_assoc}
+use Rattle.std.proofs.Common.{◌∙◌, ℕ, List, ◌++◌, ap, append_assoc}
 use Rattle.ss_gen.specs.Events.{rows_text, row_text}
 use Rattle.ss_gen.specs.Rows.{row_told}
 use Rattle.ss_gen.proofs.Rows.{more_rows, no_rows, part_of}

@@ -1,4 +1,4 @@
-use Rattle.std.proofs.Common.{◌≡◌, ℕ, ◌+◌, ◌%◌, ◌<◌, ◌++◌, [], ◌∷◌, List, drop, ap, sym, arith}
+use Rattle.std.proofs.Common.{◌≡◌, ◌+◌, ◌%◌, ◌++◌, [], ◌∷◌, List, drop, arith}
 use Rattle.ss_elem.specs.declared.element.Element.{Element}
 use Rattle.ss_tail.specs.Pages.{AddsPage, ArePages, joined}
 use Rattle.ss_tail.proofs.Paged.{last_added, next_added, on_ok, on_ok_of}

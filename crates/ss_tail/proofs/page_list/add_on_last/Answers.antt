@@ -1,4 +1,4 @@
-use Rattle.std.proofs.Common.{◌≡◌, ℕ, ◌-◌, is_ok, refl, arith}
+use Rattle.std.proofs.Common.{is_ok, refl, arith}
 use Rattle.ss_tail.proofs.Paged.{set_last}
 use Rattle.ss_tail.proofs.page_list.add_on_last.Goals as goal
 

@@ -1,4 +1,4 @@
-use Rattle.std.proofs.Common.{◌≡◌, ℕ, ◌-◌, ◌/◌, ◌%◌, ◌<◌, List, drop, sym, ap, subst, ◌∙◌, arith}
+use Rattle.std.proofs.Common.{◌%◌, List, drop, sym, ap, subst, ◌∙◌, arith}
 use Rattle.ss_elem.specs.declared.element.Element.{Element}
 use Rattle.ss_tail.specs.Pages.{ArePages, joined}
 use Rattle.ss_tail.proofs.Paged.{fewer_are}

@@ -24,6 +24,7 @@ returns g c =
     let going = none_of c.append_all-count.result.1 (sym c.is_some.ensures ∙ c.if-is_some.false) in
     let all : c.append_all-count.result.0 ≡ length c.args.first.now =
     none_stops a b c.append_all-count.result.0 (length c.args.first.now) c.append_all-count.result.1 going c.append_all-count.ensures.1 in
-    let had = c.append_all-count.ensures.0 in
-    (appended_both a b e c.args.v c.args.n c.append_all-count.result.0 c.append_all-more.result.0 c.args.first.now c.args.rest.now had all c.append_all-more.ensures.0,
-     stops_both a b e c.append_all-count.result.0 c.append_all-more.result.0 c.args.first.now c.args.rest.now c.append_all-more.result.1 had.faults all c.append_all-more.ensures.1)
+    let had = c.append_all-count.ensures.0 in (
+      appended_both a b e c.args.v c.args.n c.append_all-count.result.0 c.append_all-more.result.0 c.args.first.now c.args.rest.now had all c.append_all-more.ensures.0,
+      stops_both a b e c.append_all-count.result.0 c.append_all-more.result.0 c.args.first.now c.args.rest.now c.append_all-more.result.1 had.faults all c.append_all-more.ensures.1,
+    )
