@@ -76,7 +76,7 @@ write_applies laws p v r old new rest (Err f) joint replica is stands tail left 
     (both_met laws p v r (act.Write v r) old new rest p.vault fault.Memory joint replica replica (λ end e. e) is
     (ap inst_numbers left.1) (ap (λ (t : TailHeld). t.numbers) left.2)
     (subst (λ (w : ℕ). IsReplicaOf p.plan w new) of_v stands) (subst (λ (w : ℕ). IsTailOf p.plan w rest) of_v tail)
-    joint.parts.vault refl (refl, λ quiet. refl, goes_on p.vault) (not_called false p.vault) (puts_to_none p.plan None p.vault p.vault refl))
+    joint.parts.vault refl (refl, λ quiet. refl, goes_on p.vault) (not_called false p.vault) (puts_to_none p.plan _ p.vault p.vault refl))
 
 -- ---- load
 
@@ -126,7 +126,7 @@ load_applies laws p v r old new rest u (Err f) joint replica is stands tail soun
     (subst (λ (w : ℕ). IsReplicaOf p.plan w new) of_v stands) (subst (λ (w : ℕ). IsTailOf p.plan w rest) of_v tail)
     sound (fails_keeps (IsOfLook old.v (snapshot_loaded p.plan old (tail_of p v) p.vault)) p.plan p.vault u f left.0)
     (fails_is_cause p (replace_both p v r new rest u) (act.Load v r) None f refl (λ quiet. refl) (load_fails p v old f u of_v left.0))
-    (load_asks p v r old false u is of_v asks) (puts_to_none p.plan None p.vault u outputs)
+    (load_asks p v r old false u is of_v asks) (puts_to_none p.plan _ p.vault u outputs)
 
 -- ---- lose
 
@@ -167,7 +167,7 @@ snap_applies laws p v r old u (Err f) joint replica is sound left asks outputs =
     let of_v : old.v ≡ v = (stands_at p v r old joint.parts is).vertex in
     vault_met laws p (act.Snap v r) u f joint replica (λ end e. e) sound (fails_keeps IsOfStore p.plan p.vault u f left)
     (fails_is_cause p (replace_vault p u) (act.Snap v r) None f refl (λ quiet. refl) left) (snap_asks p v r old false u is of_v asks)
-    (puts_to_none p.plan None p.vault u outputs)
+    (puts_to_none p.plan _ p.vault u outputs)
 
 pub take_applies : ActLaws → (p : PlantTold) (k : ℕ) (u : VaultTold) (result : Result Outcome EngineFault)
     → Joint p → IsSink (plan_numbers p.plan) k

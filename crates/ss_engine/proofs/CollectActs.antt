@@ -69,7 +69,7 @@ collect_applies laws p v u (Ok o) joint stream sound left asks outputs =
     (puts_nothing p.plan p.vault u outputs)
 collect_applies laws p v u (Err f) joint stream sound left asks outputs =
     vault_met laws p (act.Collect v) u f joint stream (λ end e. e) sound (drop_keeps p.plan p.vault u f left)
-    (collect_cause p (replace_vault p u) v f left) asks (puts_to_none p.plan None p.vault u outputs)
+    (collect_cause p (replace_vault p u) v f left) asks (puts_to_none p.plan _ p.vault u outputs)
 
 pub trim_applies : ActLaws → (p : PlantTold) (v : ℕ) (u : VaultTold) (result : Result Outcome EngineFault)
     → Joint p → IsStream (plan_numbers p.plan) v → Sound p.plan u
@@ -80,7 +80,7 @@ trim_applies laws p v u (Ok o) joint stream sound left asks outputs =
     (puts_nothing p.plan p.vault u outputs)
 trim_applies laws p v u (Err f) joint stream sound left asks outputs =
     vault_met laws p (act.Trim v) u f joint stream (λ end e. e) sound (drop_keeps p.plan p.vault u f left)
-    (trim_cause p (replace_vault p u) v f left) asks (puts_to_none p.plan None p.vault u outputs)
+    (trim_cause p (replace_vault p u) v f left) asks (puts_to_none p.plan _ p.vault u outputs)
 
 pub pass_applies : ActLaws → (p : PlantTold) (u : VaultTold) (result : Result Outcome EngineFault)
     → Joint p → Sound p.plan u → PassesAll p.plan p.vault result u → AsksVault true p.vault (is_ok result) u → u.outputs ≡ p.vault.outputs
@@ -93,14 +93,14 @@ pass_applies laws p u (Err (fault.Vault (vault.Store count))) joint sound left a
     let stops = left.2 in
     let beside : VaultNumbers → State = λ n. record (state_of p) { vault = n } in
     met laws p (replace_vault p u) act.Pass (fault.Vault (vault.Store count)) joint tt (parts_with_vault p u joint.parts sound) refl
-    (halves, left.1, ap beside stops.2.numbers) (Some (entry.Pass halves), (tt, stops)) asks (puts_to_none p.plan None p.vault u outputs)
+    (halves, left.1, ap beside stops.2.numbers) (Some (entry.Pass halves), (tt, stops)) asks (puts_to_none p.plan _ p.vault u outputs)
 pass_applies laws p u (Err (fault.Vault (vault.Output count))) joint sound left asks outputs = absurd left
 pass_applies laws p u (Err (fault.Vault (vault.Damaged v n))) joint sound left asks outputs = absurd left
 pass_applies laws p u (Err (fault.Vault vault.Halted)) joint sound left asks outputs =
     vault_met laws p act.Pass u (fault.Vault vault.Halted) joint tt (λ end e. e) sound (ap (λ (w : VaultTold). numbers_of w) left.1)
-    (None, left) asks (puts_to_none p.plan None p.vault u outputs)
+    (None, left) asks (puts_to_none p.plan _ p.vault u outputs)
 pass_applies laws p u (Err (fault.Vault vault.Memory)) joint sound left asks outputs = absurd left
 pass_applies laws p u (Err (fault.Full v reached)) joint sound left asks outputs = absurd left
 pass_applies laws p u (Err fault.Memory) joint sound left asks outputs =
     vault_met laws p act.Pass u fault.Memory joint tt (λ end e. e) sound left.numbers
-    (refl, λ quiet. refl, goes_with_places p.vault u left) asks (puts_to_none p.plan None p.vault u outputs)
+    (refl, λ quiet. refl, goes_with_places p.vault u left) asks (puts_to_none p.plan _ p.vault u outputs)

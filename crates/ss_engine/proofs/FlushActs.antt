@@ -101,14 +101,14 @@ flush_applies laws p v count rest u (Ok o) joint may tail sound left asks output
 flush_applies laws p v count rest u (Err (fault.Vault vault.Halted)) joint may tail sound left asks outputs =
     let beside : VaultTold → State = λ w. record (state_of p) { vault = numbers_of w } in
     tail_and_vault_met laws p v (act.Flush v count) rest u (fault.Vault vault.Halted) joint may.0 may (ap beside left.0.1)
-    (ap (λ (t : TailHeld). t.numbers) left.1) tail sound (None, left.0) asks (puts_to_none p.plan None p.vault u outputs)
+    (ap (λ (t : TailHeld). t.numbers) left.1) tail sound (None, left.0) asks (puts_to_none p.plan _ p.vault u outputs)
 flush_applies laws p v count rest u (Err (fault.Vault (vault.Store faults))) joint may tail sound left asks outputs =
     let some : ℕ = left.0.0 in
     let all : ℕ = left.0.1 in
     let stops = left.0.5 in
     tail_and_vault_met laws p v (act.Flush v count) rest u (fault.Vault (vault.Store faults)) joint may.0 may
     (left_some p v count some all left.0.2 u left.0.3 left.0.4 stops.2.numbers)
-    (ap (λ (t : TailHeld). t.numbers) left.1) tail sound (flush_entry v some, (tt, stops)) asks (puts_to_none p.plan None p.vault u outputs)
+    (ap (λ (t : TailHeld). t.numbers) left.1) tail sound (flush_entry v some, (tt, stops)) asks (puts_to_none p.plan _ p.vault u outputs)
 flush_applies laws p v count rest u (Err (fault.Vault (vault.Output faults))) joint may tail sound left asks outputs = absurd left.0
 flush_applies laws p v count rest u (Err (fault.Vault (vault.Damaged w n))) joint may tail sound left asks outputs = absurd left.0
 flush_applies laws p v count rest u (Err (fault.Vault vault.Memory)) joint may tail sound left asks outputs = absurd left.0
@@ -120,4 +120,4 @@ flush_applies laws p v count rest u (Err fault.Memory) joint may tail sound left
     let goes : Goes p.vault u = record { halted = enters.halted ∙ sym enters.going; started = enters.started; counts = enters.counts } in
     tail_and_vault_met laws p v (act.Flush v count) rest u fault.Memory joint may.0 may
     (left_some p v count some all left.0.2 u left.0.3 left.0.4 enters.numbers)
-    (ap (λ (t : TailHeld). t.numbers) left.1) tail sound (refl, λ quiet. refl, goes) asks (puts_to_none p.plan None p.vault u outputs)
+    (ap (λ (t : TailHeld). t.numbers) left.1) tail sound (refl, λ quiet. refl, goes) asks (puts_to_none p.plan _ p.vault u outputs)

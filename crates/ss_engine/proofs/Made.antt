@@ -1,7 +1,7 @@
 -- An act that was made, or that met a fault, leaves a joint job.
 use Rattle.std.proofs.Common.{◌≡◌, ℕ, Bool, true, false, Option, Ok, Err, ap, ◌∙◌, sym, subst, refl, le_refl}
 use Rattle.std.proofs.lemmas.Bool.{false≢true}
-use Rattle.ss_acts.specs.Leaves.{AsksVault, Goes, Keeps, PutsBy, PutsToNoOther, PutsToTakers, sink_failed}
+use Rattle.ss_acts.specs.Leaves.{AsksVault, Goes, Keeps, PutsToNoOther, PutsToTakers, sink_failed}
 use Rattle.ss_acts.specs.declared.fault.EngineFault.{EngineFault}
 use Rattle.ss_fail.specs.declared.act.Act.{Act}
 use Rattle.ss_fail.specs.declared.act.Act.TheVariants as act

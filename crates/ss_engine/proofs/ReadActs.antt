@@ -187,13 +187,13 @@ read_refused laws p v r old new did (fault.Full w reached) facts joint replica i
     inst_met laws p v r (act.Read v r) old new p.vault (fault.Full w reached) joint replica replica (λ end e. e) is (ap inst_numbers same)
     (subst (λ (i : ℕ). IsReplicaOf p.plan i new) of_v stands) joint.parts.vault refl
     (full_at p v r old did w reached facts of_v reads refused, keeps_all p.vault)
-    (subst (λ (b : Bool). AsksVault b p.vault false p.vault) (sym calls) (not_called false p.vault)) (puts_to_none p.plan None p.vault p.vault refl)
+    (subst (λ (b : Bool). AsksVault b p.vault false p.vault) (sym calls) (not_called false p.vault)) (puts_to_none p.plan _ p.vault p.vault refl)
 read_refused laws p v r old new did fault.Memory facts joint replica is of_v reads refused same stands calls =
     inst_met laws p v r (act.Read v r) old new p.vault fault.Memory joint replica replica (λ end e. e) is (ap inst_numbers same)
     (subst (λ (i : ℕ). IsReplicaOf p.plan i new) of_v stands) joint.parts.vault refl
     (refl, λ quiet. not_full_at p v r old did of_v reads facts refused, goes_on p.vault)
     (subst (λ (b : Bool). AsksVault b p.vault false p.vault) (sym calls) (not_called false p.vault))
-    (puts_to_none p.plan None p.vault p.vault refl)
+    (puts_to_none p.plan _ p.vault p.vault refl)
 
 -- what is stored was asked in vain
 look_fails : (p : PlantTold) (v r : ℕ) (old : InstState) (f : EngineFault) (u : VaultTold) → inst_of p v r ≡ Some old → old.v ≡ v
@@ -215,16 +215,16 @@ read_failed laws p v r old new u (fault.Vault f) facts joint replica is of_v rea
     let Can : VaultFault → Type 0 = IsOfLook (wanted_from p.plan old) (number_wanted (vertex_of p.plan old.v) (inst_numbers old)) in
     inst_met laws p v r (act.Read v r) old new u (fault.Vault f) joint replica replica (λ end e. e) is (ap inst_numbers same)
     (subst (λ (i : ℕ). IsReplicaOf p.plan i new) of_v stands) sound (fails_keeps Can p.plan p.vault u (fault.Vault f) failed)
-    (None, look_fails p v r old (fault.Vault f) u is of_v failed) asks (puts_to_none p.plan None p.vault u outputs)
+    (None, look_fails p v r old (fault.Vault f) u is of_v failed) asks (puts_to_none p.plan _ p.vault u outputs)
 read_failed laws p v r old new u (fault.Full w reached) facts joint replica is of_v reads failed same stands sound calls asks outputs =
     inst_met laws p v r (act.Read v r) old new u (fault.Full w reached) joint replica replica (λ end e. e) is (ap inst_numbers same)
     (subst (λ (i : ℕ). IsReplicaOf p.plan i new) of_v stands) sound failed.1.numbers
     (full_at p v r old (vault_reading p.plan old p.vault) w reached facts of_v reads failed.0, failed.1)
-    asks (puts_to_none p.plan None p.vault u outputs)
+    asks (puts_to_none p.plan _ p.vault u outputs)
 read_failed laws p v r old new u fault.Memory facts joint replica is of_v reads failed same stands sound calls asks outputs =
     inst_met laws p v r (act.Read v r) old new u fault.Memory joint replica replica (λ end e. e) is (ap inst_numbers same)
     (subst (λ (i : ℕ). IsReplicaOf p.plan i new) of_v stands) sound failed.numbers
-    (refl, λ quiet. absurd (false≢true (sym quiet ∙ calls)), failed.goes) asks (puts_to_none p.plan None p.vault u outputs)
+    (refl, λ quiet. absurd (false≢true (sym quiet ∙ calls)), failed.goes) asks (puts_to_none p.plan _ p.vault u outputs)
 
 -- ---- what each function says
 

@@ -18,6 +18,7 @@ mod wiping;
 
 pub use allowed::{is_sink, is_stream, may_apply, vertex_count};
 pub use applying::apply;
+pub use laws::joint_jobs_have_what_is_needed;
 pub use plant::Plant;
 pub use playing::{play, play_one};
 pub use ss_acts::{
