@@ -13,7 +13,7 @@ use Rattle.ss_rounds.specs.Whole.{is_wait}
 use Rattle.ss_state.specs.Acts.{InstAndTailStep, offer, offer_nothing, write_act}
 use Rattle.ss_state.specs.IsNumbers.{IsNumbers}
 use Rattle.ss_state.specs.Numbers.{JobNumbers, VertexNumbers, IsStream, mlen, vertex}
-use Rattle.ss_state.specs.Rule.{ByRule, IsFailure, IsTrigger, due_after, last_snap, rule, ruled, snap_due}
+use Rattle.ss_state.specs.Rule.{ByRule, IsTrigger, due_after, last_snap, rule, ruled, snap_due}
 use Rattle.ss_state.specs.State.{InstNumbers, State, TailNumbers, durable_at, inst_at, next}
 use Rattle.ss_state.specs.Step.{IsReplica, MayAct}
 use Rattle.ss_serial.specs.Stored.{is_write}

@@ -14,7 +14,7 @@ use Rattle.ss_plan.specs.Plan.{PlanText}
 use Rattle.ss_state.specs.Numbers.{JobNumbers}
 use Rattle.ss_state.specs.Laws.{Grows}
 use Rattle.ss_state.specs.State.{Ledger, State}
-use Rattle.ss_state.specs.Step.{Made, Ran, Run, is_full, run, step}
+use Rattle.ss_state.specs.Step.{Made, Ran, Run, run, step}
 use Rattle.ss_vault.specs.Told.{VaultTold, numbers_of}
 
 abbrev pub outcomes_of : List Made → List Outcome

@@ -1,6 +1,6 @@
 -- One act of a driver, by what the engine says of it.
-use Rattle.std.proofs.Common.{◌≡◌, ◌∙◌, ℕ, ◌+◌, ◌^◌, ◌<◌, ◌≤◌, nat_eq, nat_le, nat_lt, Bool, true, false, not, List, [], ◌∷◌, Ok, Err, refl, sym, ap, subst, arith, leb-true, ltb-true}
-use Rattle.std.proofs.lemmas.Bool.{cond_both, both_ways, eqb-true, le-ltb}
+use Rattle.std.proofs.Common.{◌≡◌, ◌∙◌, ℕ, ◌<◌, nat_eq, nat_le, nat_lt, Bool, true, false, not, List, [], ◌∷◌, Ok, Err, refl, sym, ap, subst, arith, leb-true, ltb-true}
+use Rattle.std.proofs.lemmas.Bool.{cond_both, eqb-true}
 use Rattle.ss_acts.specs.declared.fault.EngineFault.{EngineFault}
 use Rattle.ss_engine.specs.Applies.{Makes}
 use Rattle.ss_engine.specs.Joint.{Joint}
@@ -16,14 +16,12 @@ use Rattle.ss_plan.specs.Plan.{PlanText}
 use Rattle.ss_rounds.specs.Laws.{DueFlushesChangeNothing, FlushesLowerTheTotal, NoWaitsBehindWholeStreams, PassAndFlushLowerTheTotal, RuledActsLowerTheTotal, TakesLowerTheTotal, WaitsChangeNothing}
 use Rattle.ss_rounds.specs.Measure.{total_left}
 use Rattle.ss_rounds.specs.Whole.{is_pass_due, is_took, is_wait}
-use Rattle.ss_state.specs.Acts.{TailAndVaultStep, VaultStep, flush_act, take_act}
+use Rattle.ss_state.specs.Acts.{VaultStep, take_act}
 use Rattle.ss_state.specs.Joint as of_numbers
 use Rattle.ss_state.specs.Numbers.{JobNumbers, IsSink, input, size, vertex}
-use Rattle.ss_state.specs.NumbersOfMeaning.{job_numbers}
 use Rattle.ss_state.specs.Rule.{ByRule, Obeys, ObeysFrom, due_after, ruled}
-use Rattle.ss_state.specs.State.{State, durable_at, tail_at}
+use Rattle.ss_state.specs.State.{State, durable_at}
 use Rattle.ss_state.specs.Step.{MayAct, Step, step}
-use Rattle.ss_state.specs.Tails.{batch_from, batch_len}
 use Rattle.ss_serial.specs.Drives.{Drives}
 use Rattle.ss_serial.specs.Headway.{Headway}
 use Rattle.ss_serial.specs.Stored.{GivesStream, StoredBelow, TakesStream, has_batch, has_line, is_idle, is_write, job_of, next_of}
