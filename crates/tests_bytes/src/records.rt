@@ -7,11 +7,11 @@ use ss_events::{Late, read_events};
 use std::alloc::Global;
 use std::test::Fail;
 
-/// A row of key `k`, a cti, and the end: the place of each in its stream is its number.
-const STREAM: &[u8] = b"event,5,9,k,3,0\ncti,10\nend\n";
+/// A row of two values, one of four, a cti, and the end: the place of each in its stream is its number.
+const STREAM: &[u8] = b"event,5,9,k,3,0\nevent,5,9,k,3,0,0,-1\ncti,10\nend\n";
 
 /// How many bytes their records have.
-const LENGTHS: [u64; 3] = [94, 54, 46];
+const LENGTHS: [u64; 4] = [94, 110, 54, 46];
 
 /// The records of the elements in the stream of vertex 2.
 fn records(alloc: Global) -> Result<Vec<Vec<u8>>, Fail> {
@@ -30,7 +30,7 @@ fn a_record_is_put_behind_what_stands_there(rt: HostRuntime) -> Result<(), Fail>
     records_are_read_again();
     no_record_begins_another();
     let list = read_events(rt.alloc(), STREAM, Late::Refuse)?;
-    assert_eq!(rt; list.len(), 3);
+    assert_eq!(rt; list.len(), 4);
     let mut out = vec![in rt.alloc(); 0xaa]?;
     valid_next(Bound::ZERO, &list[0])?;
     put_element(2, 7, &list[0], &mut out)?;

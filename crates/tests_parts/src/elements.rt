@@ -46,7 +46,7 @@ pub(crate) fn line_of(alloc: Global, text: &str) -> Result<Vec<u8>, Fail> {
     lines_of(alloc, &[element_of(text)?])
 }
 
-/// The element of a line, whatever its times are.
+/// The element of a line, whatever its times are; the last two values of a row may be left out.
 pub(crate) fn element_of(text: &str) -> Result<Element, Fail> {
     if text == "end" {
         return Ok(Element::End);
@@ -58,23 +58,30 @@ pub(crate) fn element_of(text: &str) -> Result<Element, Fail> {
             let (start, end) = (number(cells.next())?, number(cells.next())?);
             let key = cells.next().ok_or("a key is missing")?;
             let (a, b) = (value(cells.next())?, value(cells.next())?);
-            Ok(Element::Row(event(start, end, key, a, b)?))
+            let (c, d) = match cells.next() {
+                None => (0, 0),
+                third => (value(third)?, value(cells.next())?),
+            };
+            Ok(Element::Row(event(start, end, key, [a, b, c, d])?))
         }
         _ => Err(Fail::new(format_args!("no element: {text}"))),
     }
 }
 
-/// A row with two values.
-pub(crate) fn event(start: u64, end: u64, key: &str, a: i64, b: i64) -> Result<Event, Fail>
+/// A row with four values.
+pub(crate) fn event(start: u64, end: u64, key: &str, values: [i64; 4]) -> Result<Event, Fail>
     ensures start { IfOk result (λ row. row.start ≡ start) }
     ensures end { IfOk result (λ row. row.end ≡ end) }
 {
     let key = Key::of(key.as_bytes())?;
+    let [a, b, c, d] = values;
     Ok(Event {
         start,
         end,
         key,
         a,
         b,
+        c,
+        d,
     })
 }

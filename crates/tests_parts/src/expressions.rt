@@ -19,7 +19,7 @@ pub(crate) fn worth(alloc: Global, text: &str, kind: ValueKind) -> Result<Vec<u8
 
 /// The same of an expression.
 fn worth_of(alloc: Global, e: &Expr, kind: ValueKind) -> Result<Vec<u8>, Fail> {
-    let row = event(7, 9, "k", 5, 1)?;
+    let row = event(7, 9, "k", [5, 1, 11, -3])?;
     match check_kind(e, kind) {
         Ok(()) => match eval(e, &row) {
             Value::Num(number) => shown(alloc, &number),

@@ -86,23 +86,37 @@ fn window_bytes(alloc: Global, words: &[String]) -> Result<Vec<u8>, Fail> {
     Ok(bytes)
 }
 
-/// The bytes of the image of a join: the counts of left and right rows, and of each START,END,KEY,A,B.
+/// The bytes of the image of a join: the counts of left and right rows, and of each START,END,KEY,A,B, behind which ;C,D
+/// stand where it is wide.
 fn join_bytes(alloc: Global, words: &[String]) -> Result<Vec<u8>, Fail> {
     let mut bytes = Vec::new(alloc);
     bytes.extend_from_slice(&count(words, 0)?)?;
     bytes.extend_from_slice(&count(words, 1)?)?;
     for row in words.iter().skip(2) {
-        let (start, rest) = parted(row.as_str().split_once(","))?;
+        let (first, last) = match row.as_str().split_once(";") {
+            Some((first, last)) => (first, Some(last)),
+            None => (row.as_str(), None),
+        };
+        let (start, rest) = parted(first.split_once(","))?;
         let (end, rest) = parted(rest.split_once(","))?;
         let (rest, b) = parted(rest.rsplit_once(","))?;
         let (key, a) = parted(rest.rsplit_once(","))?;
         bytes.extend_from_slice(&number(Some(start))?.to_be_bytes())?;
         bytes.extend_from_slice(&number(Some(end))?.to_be_bytes())?;
         put_key(&mut bytes, key)?;
-        bytes.extend_from_slice(&value(Some(a))?.cast_unsigned().to_be_bytes())?;
-        bytes.extend_from_slice(&value(Some(b))?.cast_unsigned().to_be_bytes())?;
+        put_values(&mut bytes, a, b)?;
+        if let Some((c, d)) = last.and_then(|last| last.split_once(",")) {
+            put_values(&mut bytes, c, d)?;
+        }
     }
     Ok(bytes)
+}
+
+fn put_values(bytes: &mut Vec<u8>, first: &str, second: &str) -> Result<(), Fail> {
+    for text in [first, second] {
+        bytes.extend_from_slice(&value(Some(text))?.cast_unsigned().to_be_bytes())?;
+    }
+    Ok(())
 }
 
 fn count(words: &[String], place: usize) -> Result<[u8; 4], Fail> {

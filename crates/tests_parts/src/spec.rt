@@ -1,9 +1,10 @@
 //! What an operator does, from the words that say it.
 ghost use Rattle.std.specs.Prelude.{IfOk, IsTrue};
+ghost use Rattle.ss_expr.specs.Kinds.{HasKind};
 ghost use Rattle.ss_expr.specs.Operators.{HasWholeHops, IsComputable};
 
 use crate::told::number;
-use ss_expr::{Agg, Field, Spec, ValueKind, check_kind, parse};
+use ss_expr::{Agg, Expr, Field, Spec, ValueKind, check_kind, parse};
 use std::alloc::Global;
 use std::test::Fail;
 
@@ -38,12 +39,14 @@ pub(crate) fn settings_of(text: &str) -> Result<Settings, Fail> {
     let of = match words.next() {
         Some("a") => Field::A,
         Some("b") => Field::B,
+        Some("c") => Field::C,
+        Some("d") => Field::D,
         _ => return Err(Fail::new("no field")),
     };
     Ok(Settings { size, hop, agg, of })
 }
 
-/// The operator of `union`, `join`, `select TEST ; A ; B` or `window ..`.
+/// The operator of `union`, `join`, `select TEST ; A ; B ; C ; D` or `window ..`.
 pub(crate) fn spec_of(alloc: Global, text: &str) -> Result<Spec, Fail>
     ensures { IfOk result IsComputable }
 {
@@ -76,15 +79,25 @@ fn select(alloc: Global, text: &str) -> Result<Spec, Fail>
 {
     let mut parts = text.split(" ; ");
     let test = parts.next().ok_or("a test is missing")?;
-    let a = parse(alloc, parts.next().ok_or("a is missing")?)?;
-    check_kind(&a, ValueKind::Num)?;
-    let b = parse(alloc, parts.next().ok_or("b is missing")?)?;
-    check_kind(&b, ValueKind::Num)?;
+    let a = computed(alloc, parts.next().ok_or("a is missing")?)?;
+    let b = computed(alloc, parts.next().ok_or("b is missing")?)?;
+    let c = computed(alloc, parts.next().unwrap_or("c"))?;
+    let d = computed(alloc, parts.next().unwrap_or("d"))?;
     if test == "-" {
-        return Ok(Spec::Select { test: None, a, b });
+        let test = None;
+        return Ok(Spec::Select { test, a, b, c, d });
     }
     let test = parse(alloc, test)?;
     check_kind(&test, ValueKind::Truth)?;
     let test = Some(test);
-    Ok(Spec::Select { test, a, b })
+    Ok(Spec::Select { test, a, b, c, d })
+}
+
+/// The expression of a number.
+fn computed(alloc: Global, text: &str) -> Result<Expr, Fail>
+    ensures { IfOk result (λ e. HasKind e ValueKind.Num) }
+{
+    let e = parse(alloc, text)?;
+    check_kind(&e, ValueKind::Num)?;
+    Ok(e)
 }
