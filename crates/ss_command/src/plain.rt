@@ -2,9 +2,9 @@ ghost use Rattle.ss_command.specs.Ends.{EndsBy};
 ghost use Rattle.ss_command.specs.Order.{with_streams};
 ghost use Rattle.ss_command.specs.Seen.{seen};
 
+use crate::command::refused;
 use crate::computed::put_streams;
 use crate::outside::{Done, Outside};
-use crate::command::refused;
 use crate::sources::read_sources;
 use ss_job::Job;
 use ss_outside::{Depot, Inputs, Outputs};

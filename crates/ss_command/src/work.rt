@@ -9,9 +9,9 @@ ghost use Rattle.ss_command.specs.Output.{job_lines, made_from};
 ghost use Rattle.ss_command.specs.Seen.{seen};
 
 use crate::check::check;
+use crate::command::refused;
 use crate::generate::generate;
 use crate::outside::{Done, Outside};
-use crate::command::refused;
 use crate::plain::plain;
 use crate::play::play;
 use crate::read::read_job_file;

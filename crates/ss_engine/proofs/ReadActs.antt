@@ -174,8 +174,8 @@ not_full_at : (p : PlantTold) (v r : ℕ) (old : InstState) (did : InstStep) →
 not_full_at p v r old did of_v is facts within =
     let job : JobNumbers = plan_numbers p.plan in
     ap (λ (d : InstStep). has_passed job.max_elements (vertex job v) d.inst) is
-        ∙ ap (λ (i : ℕ). has_passed job.max_elements (vertex job i) did.inst) (sym of_v)
-        ∙ ap (λ (most : ℕ). has_passed most (vertex job old.v) did.inst) facts.of_plan.most ∙ within
+    ∙ ap (λ (i : ℕ). has_passed job.max_elements (vertex job i) did.inst) (sym of_v)
+    ∙ ap (λ (most : ℕ). has_passed most (vertex job old.v) did.inst) facts.of_plan.most ∙ within
 
 pub read_refused : ActLaws → (p : PlantTold) (v r : ℕ) (old new : InstState) (did : InstStep) (f : EngineFault)
     → ActFacts p.plan → Joint p → IsReplica (plan_numbers p.plan) v r → inst_of p v r ≡ Some old → old.v ≡ v

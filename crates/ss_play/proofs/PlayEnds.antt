@@ -219,8 +219,8 @@ to_sinks_early : (p q : PlantTold) (acts : List Act) (before after : TraceTold) 
     → PutsToSinks p.plan p.vault.outputs q.vault.outputs
 to_sinks_early p q acts before after f plays name not_sink =
     plays.outputs name
-        (λ k is. subst (λ (plan : PlanText). sink_file plan k ≢ Some name) (sym plays.runs.plan) (not_sink k))
-        ∙ to_sinks p plays.between plays.made plays.runs name not_sink
+    (λ k is. subst (λ (plan : PlanText). sink_file plan k ≢ Some name) (sym plays.runs.plan) (not_sink k))
+    ∙ to_sinks p plays.between plays.made plays.runs name not_sink
 
 pub ends_early : (p : PlantTold) → PlanFacts p.plan → (acts : List Act) (before after : TraceTold) (f : EngineFault) (q : PlantTold)
     → p.vault.halted ≡ None → All (MayAct (plan_numbers p.plan)) acts → PlaysUpTo p acts before f q after

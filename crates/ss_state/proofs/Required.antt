@@ -137,6 +137,7 @@ collect_below job s w joint of_w v stream =
         → (get_or (set l.rows w row) v empty_row).base ≡ need job l v
     set_here l w v row h same is =
         each_set l.rows w row empty_row (λ u x. u ≡ v → x.base ≡ need job l v) h (λ u. is) (λ u differs e. absurd (differs (e ∙ same))) v refl
+
     set_other : (l : Ledger) (w v : ℕ) (row : LedgerRow) → w < length l.rows → (v ≡ w → ⊥)
         → (get_or (set l.rows w row) v empty_row).base ≡ (row_at l v).base
     set_other l w v row h differs =
