@@ -65,10 +65,7 @@ fn put_made<O: Outputs>(
     let Ok(text) = made else {
         return Err(PutFault::Memory);
     };
-    match outputs.put(name, text.as_slice()) {
-        Ok(()) => Ok(()),
-        Err(fault) => Err(fault),
-    }
+    outputs.put(name, text.as_slice())
 }
 
 fn job_bytes(alloc: Global) -> Result<Vec<u8>, AllocError>

@@ -2,10 +2,10 @@
 #![tactic(auto)]
 
 mod check;
+mod command;
 mod computed;
 mod generate;
 mod outside;
-mod perform;
 mod plain;
 mod plans;
 mod play;
@@ -18,5 +18,5 @@ mod telling;
 mod work;
 mod write;
 
+pub use command::{perform, refuse};
 pub use outside::{Done, Outside};
-pub use perform::{perform, refuse};

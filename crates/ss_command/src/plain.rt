@@ -4,7 +4,7 @@ ghost use Rattle.ss_command.specs.Seen.{seen};
 
 use crate::computed::put_streams;
 use crate::outside::{Done, Outside};
-use crate::perform::refused;
+use crate::command::refused;
 use crate::sources::read_sources;
 use ss_job::Job;
 use ss_outside::{Depot, Inputs, Outputs};

@@ -9,7 +9,7 @@ ghost use Rattle.ss_command.specs.Order.{last, starts, with_acts};
 ghost use Rattle.ss_command.specs.Seen.{seen};
 
 use crate::outside::{Done, Outside};
-use crate::perform::refused;
+use crate::command::refused;
 use crate::plans::shared_plan;
 use crate::read::read_schedule_file;
 use crate::sources::read_sources;

@@ -11,7 +11,7 @@ ghost use Rattle.ss_command.specs.Order.{finish, last, starts, with_run};
 ghost use Rattle.ss_command.specs.Seen.{seen};
 
 use crate::outside::{Done, Outside};
-use crate::perform::refused;
+use crate::command::refused;
 use crate::plans::shared_plan;
 use crate::read::read_failures_of;
 use crate::sources::read_sources;

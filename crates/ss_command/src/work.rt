@@ -11,7 +11,7 @@ ghost use Rattle.ss_command.specs.Seen.{seen};
 use crate::check::check;
 use crate::generate::generate;
 use crate::outside::{Done, Outside};
-use crate::perform::refused;
+use crate::command::refused;
 use crate::plain::plain;
 use crate::play::play;
 use crate::read::read_job_file;

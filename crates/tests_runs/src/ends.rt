@@ -117,56 +117,6 @@ fn stops(running: Running, case: Case, text: &str) -> Result<(), Fail> {
     has_first(running, text, case)
 }
 
-/// A job of three rows that is driven from its start.
-fn stops_at_start(alloc: Global, job: &str, case: Case) -> Result<(), Fail> {
-    let running = Running::over(alloc, job, &[FILE], case.trouble)?;
-    stops(running, case, LINES)
-}
-
-#[test]
-fn a_device_that_fails_ends_a_run(rt: HostRuntime) -> Result<(), Fail> {
-    // In one round the source is stored, then the select, and then the sink takes each line, of 16 bytes but for the
-    // last.
-    for (n, bytes) in [(0, 0), (1, 16), (2, 32), (3, 48)] {
-        let stored = from_the_start(4, 4, n);
-        let cases = [
-            failing(DepotCall::Append, 1 + n, from_the_start(n, 0, 0), 0),
-            failing(DepotCall::Append, 5 + n, from_the_start(4, n, 0), 0),
-            failing(DepotCall::Fetch, 1 + n, stored, bytes),
-            short(1 + n, n, stored, bytes),
-            cut_off(1 + n, stored, bytes),
-        ];
-        for case in cases {
-            stops_at_start(rt.alloc(), JOB, case)?;
-        }
-    }
-    Ok(())
-}
-
-/// The same with a snapshot after every second element.
-const SNAPPED: &str = "
-vertex = [
-    { name = 's', op = 'source', file = 's.csv' },
-    { name = 'w', op = 'select', inputs = ['s'], every = 2 },
-    { name = 'o', op = 'sink', inputs = ['w'], file = 'o.csv' },
-]
-";
-
-#[test]
-fn a_snapshot_that_is_not_kept_ends_a_run(rt: HostRuntime) -> Result<(), Fail> {
-    // The first keep was that of the start. Both others come before the select is stored.
-    let first = from_the_start(4, 0, 0);
-    let second = Stored {
-        snaps: (2, Some(0)),
-        ..first
-    };
-    for (number, stored) in [(2, first), (3, second)] {
-        let case = failing(DepotCall::Keep, number, stored, 0);
-        stops_at_start(rt.alloc(), SNAPPED, case)?;
-    }
-    Ok(())
-}
-
 /// A job that has lost its memory behind a collect and a put, with six appends, one load and one fetch before.
 fn stops_behind(alloc: Global, case: Case) -> Result<(), Fail> {
     let mut running = Running::over(alloc, JOB, &[FILE], case.trouble)?;
@@ -216,59 +166,6 @@ fn a_device_that_fails_ends_a_recovery(rt: HostRuntime) -> Result<(), Fail> {
         for case in cases {
             stops_behind(rt.alloc(), case)?;
         }
-    }
-    Ok(())
-}
-
-/// A job in which a pass is due before the select's first flush, and before the source's second.
-const PASSED: &str = "
-job = { collect_every = 64 }
-vertex = [
-    { name = 's', op = 'source', file = 's.csv' },
-    { name = 'w', op = 'select', inputs = ['s'], every = 32 },
-    { name = 'o', op = 'sink', inputs = ['w'], file = 'o.csv' },
-]
-";
-
-#[test]
-fn a_pass_that_fails_ends_a_run(rt: HostRuntime) -> Result<(), Fail> {
-    let file = rows(rt.alloc(), 70)?;
-    // The first turns store 64 elements and give a snapshot after 32. The sink has put 64 lines when the second pass is
-    // made: 9 of 16 bytes, one of 17 and 54 of 18.
-    let first = Stored {
-        snaps: (2, Some(0)),
-        ..from_the_start(64, 0, 0)
-    };
-    let second = Stored {
-        select: (0, 64),
-        taken: 64,
-        ..first
-    };
-    let collected = Stored {
-        select: (64, 64),
-        ..second
-    };
-    let trimmed = Stored {
-        snaps: (1, Some(32)),
-        ..collected
-    };
-    let passed = Stored {
-        source: (32, 71),
-        ..trimmed
-    };
-    let cases = [
-        failing(DepotCall::Keep, 2, from_the_start(64, 0, 0), 0),
-        failing(DepotCall::Cut, 1, first, 0),
-        failing(DepotCall::DropBelow, 1, first, 0),
-        failing(DepotCall::Cut, 2, first, 0),
-        failing(DepotCall::Cut, 3, second, 1_133),
-        failing(DepotCall::DropBelow, 2, collected, 1_133),
-        failing(DepotCall::Cut, 4, trimmed, 1_133),
-        failing(DepotCall::Keep, 3, passed, 1_133),
-    ];
-    for case in cases {
-        let running = Running::over(rt.alloc(), PASSED, &[file.as_str()], case.trouble)?;
-        stops(running, case, file.as_str())?;
     }
     Ok(())
 }

@@ -23,8 +23,6 @@ mod failing;
 #[cfg(test)]
 mod faults;
 #[cfg(test)]
-mod long;
-#[cfg(test)]
 mod serial_long;
 #[cfg(test)]
 mod starts;

@@ -1,9 +1,8 @@
-use Rattle.std.proofs.Common.{◌+◌, ◌%◌, ◌^◌, [], ◌∷◌, List, ℕ, codes, subst}
+use Rattle.std.proofs.Common.{◌+◌, ◌%◌, ◌^◌, [], ◌∷◌, List, codes}
 use Rattle.ss_gen.specs.Events.{events_text}
-use Rattle.ss_gen.specs.Job.{job_text}
 use Rattle.ss_report.specs.StateText.{state_text}
 use Rattle.ss_report.specs.declared.state_row.StateRow.TheVariants.{Written}
-use Rattle.ss_command.specs.Puts.{Put, Wrote, put_of}
+use Rattle.ss_command.specs.Puts.{Put, put_of}
 use Rattle.ss_command.proofs.Wrote.{wrote-behind, wrote-stopped}
 use Rattle.ss_command.proofs.generate.put_events.Goals as goal
 
@@ -22,4 +21,4 @@ returns g c =
     let new = g.O.Outputs.told c.put_rest.new.outputs in
     let first : List Put = put_of (codes "gen-a.csv") (events_text c.args.seed) ∷ [] in
     let rest : List Put = put_of (codes "gen-b.csv") (events_text ((c.args.seed + 1) % 2 ^ 64)) ∷ put_of (codes "-") (state_text [] Written) ∷ [] in
-    wrote-behind old mid new first rest c.put_rest.result (c.in-Ok.ensures (events_text c.args.seed) c.events_bytes.ensures) (subst (λ (n : ℕ). Wrote mid new (put_of (codes "gen-b.csv") (events_text n) ∷ put_of (codes "-") (state_text [] Written) ∷ []) c.put_rest.result) c.wrapping_add.ensures c.put_rest.ensures)
+    wrote-behind old mid new first rest c.put_rest.result (c.in-Ok.ensures (events_text c.args.seed) c.events_bytes.ensures) c.put_rest.ensures

@@ -1,6 +1,5 @@
-use Rattle.std.proofs.Common.{◌+◌, ◌%◌, ◌^◌, [], ◌∷◌, List, codes}
+use Rattle.std.proofs.Common.{[], ◌∷◌, List, codes}
 use Rattle.ss_gen.specs.Events.{events_text}
-use Rattle.ss_gen.specs.Job.{job_text}
 use Rattle.ss_report.specs.StateText.{state_text}
 use Rattle.ss_report.specs.declared.state_row.StateRow.TheVariants.{Written}
 use Rattle.ss_command.specs.Puts.{Put, put_of}

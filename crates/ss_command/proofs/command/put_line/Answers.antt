@@ -2,7 +2,7 @@ use Rattle.std.proofs.Common.{[], ◌∷◌, ℕ, List, length, codes, sym, subs
 use Rattle.std.proofs.Math.Seq.{take-length}
 use Rattle.ss_command.specs.Puts.{Went, put_of}
 use Rattle.ss_command.proofs.Puts.{Went-one}
-use Rattle.ss_command.proofs.perform.put_line.Goals as goal
+use Rattle.ss_command.proofs.command.put_line.Goals as goal
 
 pub returns-in-Ok : goal.returns-in-Ok
 returns-in-Ok g c =

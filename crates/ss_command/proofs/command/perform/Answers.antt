@@ -7,7 +7,7 @@ use Rattle.ss_command.specs.Refusal.{refusal_of}
 use Rattle.ss_command.specs.Seen.{seen}
 use Rattle.ss_command.proofs.Ends.{keeps-same, stops_here, refused_at, ends-first, ends}
 use Rattle.ss_command.proofs.Ways.{OneReading}
-use Rattle.ss_command.proofs.perform.perform.Goals as goal
+use Rattle.ss_command.proofs.command.perform.Goals as goal
 
 pub returns-in-Ok : goal.returns-in-Ok
 returns-in-Ok g c =
