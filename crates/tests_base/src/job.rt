@@ -28,6 +28,7 @@ op = 'select'
 inputs = ['a']
 where = 'a > 1'
 a = 'a + b'
+d = 'a * d'
 recover = 'replay'
 every = 7
 replicas = 3
@@ -61,7 +62,7 @@ file = '-'
 const LINES: [&str; 7] = [
     "a Source Source [] file a.csv Drop, 2 replicas",
     "b Source Source [] file b.csv Refuse, 1 replicas",
-    "chosen Select Inner [0] test true at 2, a at 2, b at 0, Policy { replay: true, every: 7, replicas: 3 }, 3 replicas",
+    "chosen Select Inner [0] test true at 2, a at 2, b at 0, c at 0, d at 2, Policy { replay: true, every: 7, replicas: 3 }, 3 replicas",
     "all Union Inner [1, 2, 1] Policy { replay: false, every: 64, replicas: 1 }, 1 replicas",
     "sums Window Inner [3] size 30, hop 10, Greatest of B, Policy { replay: false, every: 64, replicas: 1 }, 1 replicas",
     "pairs Join Inner [4, 1] Policy { replay: false, every: 64, replicas: 1 }, 1 replicas",
@@ -77,10 +78,10 @@ fn shown_test(test: &Option<Expr>) -> (bool, u64) {
 
 fn shown_spec(alloc: Global, spec: Option<&Spec>) -> Result<String, AllocError> {
     match spec {
-        Some(Spec::Select { test, a, b }) => {
+        Some(Spec::Select { test, a, b, c, d }) => {
             let (is_tested, place) = shown_test(test);
-            let (a, b) = (a.place(), b.place());
-            format!(in alloc; "test {is_tested} at {place}, a at {a}, b at {b}, ")
+            let (a, b, c, d) = (a.place(), b.place(), c.place(), d.place());
+            format!(in alloc; "test {is_tested} at {place}, a at {a}, b at {b}, c at {c}, d at {d}, ")
         }
         Some(Spec::Window { size, hop, agg, of }) => {
             format!(in alloc; "size {size}, hop {hop}, {agg:?} of {of:?}, ")

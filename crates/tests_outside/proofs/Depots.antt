@@ -1,6 +1,6 @@
 -- What a depot holds from call to call.
-use Rattle.std.proofs.Common.{◌≡◌, ℕ, ◌≤◌, List, Result, Ok, Err, is_err, true, IsSome, IsNone, ap, sym, subst, ◌∙◌}
-use Rattle.ss_outside.specs.Depot.{Contents, DepotTold, Discards, next_number, record_at}
+use Rattle.std.proofs.Common.{◌≡◌, Result, Ok, Err, is_err, true, ap, ◌∙◌}
+use Rattle.ss_outside.specs.Depot.{Contents, DepotTold, Discards}
 use Rattle.ss_outside.specs.declared.depot.Failed.{Failed}
 
 -- the next change comes to what was there

@@ -89,7 +89,7 @@ operator_list law plan is_plan v h some =
 
 source_text : (node : Node) (text : VertexText) (list : List Element) → op_of_vertex text ≡ op.Source → vertex_at node text list ≡ Source list
 source_text node (source file late) list h = refl
-source_text node (inner (spec.Select test a b) policy) list h = cc
+source_text node (inner (spec.Select test a b c d) policy) list h = cc
 source_text node (inner spec.Union policy) list h = cc
 source_text node (inner (spec.Window size hop agg of) policy) list h = cc
 source_text node (inner spec.Join policy) list h = cc
