@@ -81,7 +81,9 @@ fn shown_spec(alloc: Global, spec: Option<&Spec>) -> Result<String, AllocError> 
         Some(Spec::Select { test, a, b, c, d }) => {
             let (is_tested, place) = shown_test(test);
             let (a, b, c, d) = (a.place(), b.place(), c.place(), d.place());
-            format!(in alloc; "test {is_tested} at {place}, a at {a}, b at {b}, c at {c}, d at {d}, ")
+            format!(in alloc;
+                "test {is_tested} at {place}, a at {a}, b at {b}, c at {c}, d at {d}, "
+            )
         }
         Some(Spec::Window { size, hop, agg, of }) => {
             format!(in alloc; "size {size}, hop {hop}, {agg:?} of {of:?}, ")
