@@ -1,6 +1,6 @@
 //! What the driver tells where it can't bring a job to its end, and what the job then is.
 use crate::driving::finish_alone;
-use fixtures::{FILE, JOB, LINES, O, Running, S, Trouble, W, has_put, leave_behind, rows};
+use fixtures::{FILE, JOB, LINES, O, Running, S, Trouble, W, has_put, leave_behind};
 use ss_outside::DepotCall;
 use ss_serial::SerialFault;
 use ss_vault::VaultFault;

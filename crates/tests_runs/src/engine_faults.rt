@@ -1,9 +1,6 @@
 //! Acts that meet a fault.
-use fixtures::{
-    Expected, FILE, JOB, Running, S, Trouble, flush, got, make_all, meets, read, stored, write,
-};
+use fixtures::{FILE, JOB, Running, S, Trouble, flush, got, make_all, meets, read, stored, write};
 use ss_engine::EngineFault;
-use ss_fail::Outcome;
 use ss_outside::DepotCall;
 use ss_vault::VaultFault;
 use std::test::Fail;
