@@ -4,7 +4,8 @@ use Rattle.std.specs.Int.{w64, w128, cast_unsigned}
 use Rattle.std.specs.List.{flat_map, list_all}
 use Rattle.ss_elem.specs.Rows.{has_two_values}
 use Rattle.ss_elem.specs.declared.element.Event.{Event}
-use Rattle.ss_meaning.specs.Entries.{WindowEntry, Entries, NoEntries, WindowEntries, JoinRows}
+use Rattle.ss_meaning.specs.Entries.{WindowEntry, Entries, NoEntries, WindowEntries, JoinRows, SessionEntries}
+use Rattle.ss_meaning.specs.Session.{SessionEntry}
 use Rattle.ss_image.specs.declared.row_form.RowForm.{RowForm}
 use Rattle.ss_image.specs.declared.row_form.RowForm.TheVariants.{Narrow, Wide}
 use Rattle.ss_image.specs.Numbers.{number_bytes, key_bytes}
@@ -18,6 +19,17 @@ entry_bytes e =
 -- how many entries there are, and then each of them
 unfoldable pub window_image : List WindowEntry → List ℕ
 window_image entries = number_bytes 4 (length entries) ++ flat_map entry_bytes entries
+
+-- a session in 56 bytes: its key, its least and its greatest start, its value as two's complement of 128 bits, and how
+-- many rows it has
+unfoldable pub session_bytes : SessionEntry → List ℕ
+session_bytes s =
+    key_bytes s.key ++ number_bytes 8 s.first ++ number_bytes 8 s.last
+    ++ number_bytes 16 (cast_unsigned w128 s.value) ++ number_bytes 8 s.rows
+
+-- how many sessions there are, and then each of them
+unfoldable pub session_image : List SessionEntry → List ℕ
+session_image entries = number_bytes 4 (length entries) ++ flat_map session_bytes entries
 
 -- a row in 48 bytes: its start, its end, its key, and its first two values as two's complement of 64 bits
 unfoldable pub narrow_bytes : Event → List ℕ
@@ -59,3 +71,4 @@ abbrev pub image_of : Entries → List ℕ
 image_of NoEntries = []
 image_of (WindowEntries entries) = window_image entries
 image_of (JoinRows left right) = join_image left right
+image_of (SessionEntries entries) = session_image entries

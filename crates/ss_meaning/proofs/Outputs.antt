@@ -9,7 +9,7 @@ use Rattle.ss_elem.specs.declared.element.Element.TheVariants.{Row, Cti, End}
 use Rattle.ss_meaning.specs.Bound.{bound}
 use Rattle.ss_meaning.specs.Merge.{Arrival, is_from, from_input, merge}
 use Rattle.ss_meaning.specs.Low.{low, cti_or_end, advance}
-use Rattle.ss_meaning.specs.Emit.{Kind, Select, Union, Hopping, Join, rows_at, emit, given_along, output}
+use Rattle.ss_meaning.specs.Emit.{Kind, Select, Union, Hopping, Join, Session, Except, rows_at, emit, given_along, output}
 use Rattle.ss_meaning.specs.Jobs.{IsBefore, Takes}
 use Rattle.ss_meaning.proofs.Each.{each-append}
 use Rattle.ss_meaning.proofs.Prefixes.{from_input-append}
@@ -148,6 +148,8 @@ at_least_one (Select select) inputs h = omega arith
 at_least_one Union inputs h = omega arith
 at_least_one (Hopping window) inputs h = omega (arith, h.0)
 at_least_one Join inputs h = omega arith
+at_least_one (Session window) inputs h = omega (arith, h.0)
+at_least_one Except inputs h = omega arith
 
 pub operator_whole : (kind : Kind) (lists : List (List Element)) (time : ℕ) → Takes kind (length lists) → 0 < time → time + 2 ^ 47 ≤ top → All Whole lists
     → ((input : ℕ) → input < length lists → AllByRecursion (IsBefore time) (from_input input (merge lists)))

@@ -8,6 +8,8 @@ use Rattle.ss_meaning.specs.Merge.{Arrival, from_input}
 use Rattle.ss_meaning.specs.Low.{low, advance}
 use Rattle.ss_meaning.specs.Window.{Window, window_rows}
 use Rattle.ss_meaning.specs.Join.{join_rows}
+use Rattle.ss_meaning.specs.Session.{SessionWindow, session_rows}
+use Rattle.ss_meaning.specs.Except.{absent_row, left_alone}
 
 -- which rows pass, and their new values
 pub record Selection : Type 0 where
@@ -23,6 +25,8 @@ pub data Kind : Type 0 where
   Union : Kind
   Hopping : Window → Kind
   Join : Kind
+  Session : SessionWindow → Kind
+  Except : Kind
 
 -- a row with the values that a select computes from it
 abbrev pub revalued : Selection → Event → Event
@@ -43,6 +47,9 @@ rows_at Union inputs p x = row_of x.element
 rows_at (Hopping window) inputs p x =
     window_rows window (rows (from_input 0 p)) (low inputs p) (low inputs (p ++ x ∷ []))
 rows_at Join inputs p x = flat_map (λ row. join_rows x.input row (rows (from_input (1 - x.input) p))) (row_of x.element)
+rows_at (Session window) inputs p x =
+    session_rows window (rows (from_input 0 p)) (low inputs p) (low inputs (p ++ x ∷ []))
+rows_at Except inputs p x = map absent_row (left_alone p x)
 
 -- all that it gives at x: the rows, and then how far Low rose
 abbrev pub emit : Kind → ℕ → List Arrival → Arrival → List Element

@@ -3,7 +3,7 @@ use Rattle.std.specs.Prelude.{◌≡◌, ℕ, ◌+◌, ◌^◌, ◌<◌, ◌≤�
 use Rattle.ss_elem.specs.Validity.{Whole}
 use Rattle.ss_elem.specs.declared.element.Element.{Element}
 use Rattle.ss_elem.specs.declared.element.Element.TheVariants.{Row, Cti, End}
-use Rattle.ss_meaning.specs.Emit.{Kind, Select, Union, Hopping, Join}
+use Rattle.ss_meaning.specs.Emit.{Kind, Select, Union, Hopping, Join, Session, Except}
 use Rattle.ss_meaning.specs.Meaning.{Vertex, Source, Inner, Sink, vertex}
 
 -- each time of the element is below this one
@@ -12,12 +12,14 @@ IsBefore time (Row row) = (row.start < time) × (row.end < time)
 IsBefore time (Cti cti) = cti < time
 IsBefore time End = Unit {0}
 
--- an operator of this kind may have so many inputs, and a window such numbers
+-- an operator of this kind may have so many inputs, and a window or a session such numbers
 abbrev pub Takes : Kind → ℕ → Type 0
 Takes (Select select) inputs = inputs ≡ 1
 Takes Union inputs = 2 ≤ inputs
 Takes (Hopping window) inputs = (inputs ≡ 1) × (1 ≤ window.hop) × (window.size + window.hop ≤ 2 ^ 47)
 Takes Join inputs = inputs ≡ 2
+Takes (Session window) inputs = (inputs ≡ 1) × (1 ≤ window.gap) × (window.gap + 1 ≤ 2 ^ 47)
+Takes Except inputs = inputs ≡ 2
 
 -- a vertex may stand as number v: a source is whole and has times below 2^62, and inputs stand before it
 abbrev pub MayStand : ℕ → Vertex → Type 0

@@ -5,6 +5,8 @@ pub mod Low
 pub mod Inputs
 pub mod Window
 pub mod Join
+pub mod Session
+pub mod Except
 pub mod Emit
 pub mod Entries
 pub mod EntryLists
