@@ -1,5 +1,5 @@
 -- What holds of each element of a list, by recursion.
-use Rattle.std.proofs.Common.{List, [], ◌∷◌, ◌++◌, map, filter, Bool, true, false, cond}
+use Rattle.std.proofs.Common.{◌≡◌, List, [], ◌∷◌, ◌++◌, map, filter, Bool, true, false, cond, refl}
 use Rattle.std.specs.List.{AllByRecursion, flat_map}
 
 pub each-append : {A : Type 0} (P : A → Type 0) (xs ys : List A) → AllByRecursion P xs → AllByRecursion P ys → AllByRecursion P (xs ++ ys)
@@ -38,3 +38,13 @@ each_kept P x xs false h k = k
 pub each-filter : {A : Type 0} (P : A → Type 0) (test : A → Bool) (xs : List A) → AllByRecursion P xs → AllByRecursion P (filter test xs)
 each-filter P test [] h = tt
 each-filter P test (x ∷ xs) h = each_kept P x (filter test xs) (test x) h.0 (each-filter P test xs h.1)
+
+-- what passes a test passes it, and what held before still holds of it
+passes_kept : {A : Type 0} (P : A → Type 0) (test : A → Bool) (x : A) (xs : List A) (b : Bool) → test x ≡ b → P x
+    → AllByRecursion (λ y. P y × (test y ≡ true)) xs → AllByRecursion (λ y. P y × (test y ≡ true)) (cond b (x ∷ xs) xs)
+passes_kept P test x xs true e h k = ((h, e), k)
+passes_kept P test x xs false e h k = k
+
+pub each_passes : {A : Type 0} (P : A → Type 0) (test : A → Bool) (xs : List A) → AllByRecursion P xs → AllByRecursion (λ y. P y × (test y ≡ true)) (filter test xs)
+each_passes P test [] h = tt
+each_passes P test (x ∷ xs) h = passes_kept P test x (filter test xs) (test x) refl h.0 (each_passes P test xs h.1)

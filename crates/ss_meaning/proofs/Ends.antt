@@ -9,7 +9,8 @@ use Rattle.ss_elem.specs.declared.element.Event.{Event}
 use Rattle.ss_meaning.specs.Window.{Window, belongs, multiples, ends_of, put_once, rising, window_ends, window_keys}
 use Rattle.ss_meaning.specs.Laws.{IsEnd, WindowEndsHaveRows, WindowKeysHaveRows}
 use Rattle.ss_meaning.proofs.Each.{each_weaker}
-use Rattle.ss_meaning.proofs.Rows.{multiple-le, each-put_once}
+use Rattle.ss_meaning.proofs.GivenRows.{each-put_once}
+use Rattle.ss_meaning.proofs.Rows.{multiple-le}
 
 -- being in a list, by recursion
 

@@ -4,6 +4,9 @@ pub mod Steps
 pub mod Merging
 pub mod Counts
 pub mod Lows
+pub mod GivenRows
+pub mod SessionRows
+pub mod ExceptRows
 pub mod Rows
 pub mod Outputs
 pub mod Streams

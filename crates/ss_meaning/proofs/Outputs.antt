@@ -15,7 +15,8 @@ use Rattle.ss_meaning.proofs.Each.{each-append}
 use Rattle.ss_meaning.proofs.Prefixes.{from_input-append}
 use Rattle.ss_meaning.proofs.Steps.{follows_in, follows_below, bound_from-cons, bound_past_is}
 use Rattle.ss_meaning.proofs.Lows.{low-le, low-most, low-top, low-nil, low_rises, low-time, valid_first, IsTime, IsEarly, merge_whole}
-use Rattle.ss_meaning.proofs.Rows.{IsGiven, Arrives, rows_given}
+use Rattle.ss_meaning.proofs.GivenRows.{IsGiven}
+use Rattle.ss_meaning.proofs.Rows.{Arrives, rows_given}
 use Rattle.ss_meaning.proofs.Merging.{merge-input}
 
 -- rows, and then how far Low rose

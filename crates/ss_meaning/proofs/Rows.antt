@@ -13,15 +13,14 @@ use Rattle.ss_meaning.specs.Merge.{Arrival, from_input}
 use Rattle.ss_meaning.specs.Low.{low}
 use Rattle.ss_meaning.specs.Window.{Window, multiples, ends_of, put_once, rising, window_ends, window_keys, window_row, window_rows}
 use Rattle.ss_meaning.specs.Join.{matches, joined, joined_from, join_rows}
-use Rattle.ss_meaning.specs.Emit.{Kind, Select, Union, Hopping, Join, Selection, revalued, rows_at}
+use Rattle.ss_meaning.specs.Emit.{Kind, Select, Union, Hopping, Join, Session, Except, Selection, revalued, rows_at}
 use Rattle.ss_meaning.specs.Jobs.{IsBefore, Takes}
 use Rattle.ss_meaning.proofs.Each.{each-map, each-filter, each-flat_map, each_weaker, each_given}
+use Rattle.ss_meaning.proofs.GivenRows.{IsGiven, rising_above}
+use Rattle.ss_meaning.proofs.SessionRows.{session_given}
+use Rattle.ss_meaning.proofs.ExceptRows.{left_given}
 use Rattle.ss_meaning.proofs.Steps.{Follows, bound_from-first}
-use Rattle.ss_meaning.proofs.Lows.{AllValid, IsEarly, from_input-early}
-
--- a row that may be given where Low was so much
-abbrev pub IsGiven : ℕ → ℕ → Event → Type 0
-IsGiven low limit row = (low ≤ row.start) × (row.start < row.end) × (row.end < limit)
+use Rattle.ss_meaning.proofs.Lows.{AllValid, IsEarly, low-le, from_input-early}
 
 -- the rows among elements
 
@@ -63,28 +62,6 @@ select_given select q limit rs h =
 
 -- window
 
-kept_passes : (P : ℕ → Type 0) (test : ℕ → Bool) (x : ℕ) (xs : List ℕ) (b : Bool) → test x ≡ b → P x
-    → AllByRecursion (λ w. P w × (test w ≡ true)) xs → AllByRecursion (λ w. P w × (test w ≡ true)) (cond b (x ∷ xs) xs)
-kept_passes P test x xs true e h k = ((h, e), k)
-kept_passes P test x xs false e h k = k
-
-each_passes : (P : ℕ → Type 0) (test : ℕ → Bool) (xs : List ℕ) → AllByRecursion P xs → AllByRecursion (λ w. P w × (test w ≡ true)) (filter test xs)
-each_passes P test [] h = tt
-each_passes P test (x ∷ xs) h = kept_passes P test x (filter test xs) (test x) refl h.0 (each_passes P test xs h.1)
-
-pub each-put_once : (P : ℕ → Type 0) (n : ℕ) (ms : List ℕ) → P n → AllByRecursion P ms → AllByRecursion P (put_once n ms)
-each-put_once P n [] h k = (h, tt)
-each-put_once P n (m ∷ ms) h k = by_tests (nat_lt n m) (n == m) (each-put_once P n ms h k.1)
-  where
-    by_tests : (b c : Bool) → AllByRecursion P (put_once n ms) → AllByRecursion P (cond b (n ∷ m ∷ ms) (cond c (m ∷ ms) (m ∷ put_once n ms)))
-    by_tests true c rest = (h, k)
-    by_tests false true rest = k
-    by_tests false false rest = (k.0, rest)
-
-each-rising : (P : ℕ → Type 0) (ns : List ℕ) → AllByRecursion P ns → AllByRecursion P (rising ns)
-each-rising P [] h = tt
-each-rising P (n ∷ ns) h = each-put_once P n (rising ns) h.0 (each-rising P ns h.1)
-
 pub multiple-le : (hop number most : ℕ) → number ≤ most / hop → 1 ≤ hop → hop * number ≤ most
 multiple-le hop number most h k =
     let up : hop * number ≤ hop * (most / hop) = mul-le-mul_left hop h in
@@ -115,15 +92,11 @@ ends_given : (window : Window) (seen : List Event) (q q' time limit : ℕ) → 1
     → AllByRecursion (λ (row : Event). row.start < time) seen → AllByRecursion (λ w. (q < w) × (w + window.hop < limit)) (window_ends window seen q q')
 ends_given window seen q q' time limit h k early =
     let P : ℕ → Type 0 = λ w. w + window.hop < limit in
-    let Q : ℕ → Type 0 = λ w. (q < w) × (w + window.hop < limit) in
-    let test : ℕ → Bool = λ w. nat_lt q w && nat_le w q' in
     let candidates = flat_map (ends_of window) seen in
     let below : AllByRecursion P candidates =
     each-flat_map (λ (row : Event). row.start < time) P (ends_of window)
     (λ row e. each_weaker (λ w. w ≤ row.start + window.size) P (λ w l. omega arith) (ends_of window row) (ends_of-le window row h)) seen early in
-    each-rising Q (filter test candidates)
-    (each_weaker (λ w. P w × (test w ≡ true)) Q (λ w pair. (ltb-true q w (and_parts (nat_lt q w) (nat_le w q') pair.1).0, pair.0)) (filter test candidates)
-    (each_passes P test candidates below))
+    rising_above q q' candidates P below
 
 window_given : (window : Window) (seen : List Event) (q q' time limit : ℕ) → 1 ≤ window.hop → time + (window.size + window.hop) ≤ limit
     → AllByRecursion (λ (row : Event). row.start < time) seen → AllByRecursion (IsGiven q limit) (window_rows window seen q q')
@@ -182,6 +155,11 @@ starts_early time End h = tt
 seen_early : (time : ℕ) (xs : List Element) → AllByRecursion (IsBefore time) xs → AllByRecursion (λ (row : Event). row.start < time) (rows xs)
 seen_early time xs h = each-flat_map (IsBefore time) (λ (row : Event). row.start < time) row_of (starts_early time) xs h
 
+ends_early : (time limit : ℕ) → time + 1 ≤ limit → (x : Element) → IsBefore time x → AllByRecursion (λ (row : Event). row.end + 1 < limit) (row_of x)
+ends_early time limit k (Row row) h = (omega (arith, h.1), tt)
+ends_early time limit k (Cti t) h = tt
+ends_early time limit k End h = tt
+
 spans_of : (inputs : ℕ) (p : List Arrival) (input : ℕ) → AllValid inputs p → input < inputs → AllByRecursion (λ (y : Event). y.start < y.end) (rows (from_input input p))
 spans_of inputs p input valid within =
     let known = valid input within in
@@ -202,3 +180,12 @@ rows_given Join inputs time limit p x takes k h =
     (λ row given. join_given (low inputs p) limit x.input row (rows (from_input (1 - x.input) p)) given
     (spans_of inputs p (1 - x.input) h.valid (omega arith)))
     (row_of x.element) (at_hand inputs time limit p x h (omega arith))
+rows_given (Session window) inputs time limit p x takes k h =
+    session_given window (rows (from_input 0 p)) (low inputs p) (low inputs (p ++ x ∷ [])) time limit (omega (arith, takes.1))
+    (seen_early time (from_input 0 p) (from_input-early time 0 p h.all_early))
+rows_given Except inputs time limit p x takes k h =
+    let q = low inputs p in
+    left_given q limit p x (low-le inputs p 1 (omega (arith, takes)))
+    (each_weaker (IsGiven q time) (λ (row : Event). (q ≤ row.end) × (row.end + 1 < limit)) (λ row given. (omega (arith, given.0, given.1), omega (arith, given.2))) (row_of x.element)
+    (at_hand inputs time time p x h (omega arith)))
+    (each-flat_map (IsBefore time) (λ (row : Event). row.end + 1 < limit) row_of (ends_early time limit (omega arith)) (from_input 0 p) (from_input-early time 0 p h.all_early))
