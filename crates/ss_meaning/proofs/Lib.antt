@@ -6,6 +6,7 @@ pub mod Counts
 pub mod Lows
 pub mod GivenRows
 pub mod SessionRows
+pub mod SessionsOf
 pub mod ExceptRows
 pub mod Rows
 pub mod Outputs

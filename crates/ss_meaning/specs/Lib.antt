@@ -19,3 +19,4 @@ pub mod Jobs
 pub mod Laws
 pub mod EntryLaws
 pub mod JoinLaws
+pub mod SessionRows

@@ -20,6 +20,6 @@ pub use laws::{
     bound_is_that_of_valid_lists, bounds_tell_what_is_next, counts_never_fall,
     least_bound_goes_next, low_never_falls, meaning_is_early, meaning_is_made_of_the_inputs,
     meaning_is_whole, merge_keeps_each_input, output_only_grows, positions_add_up,
-    sorted_is_in_order, windows_with_rows_are_given,
+    sessions_are_of_rows, sorted_is_in_order, windows_with_rows_are_given,
 };
 pub use wrong_meanings::wrong_meanings_differ;
