@@ -84,7 +84,7 @@ pub record HasWholeHops (size hop : ℕ) : Type 0 where
   pub whole : size % hop ≡ 0
 
 -- the gap of a session is 1 to 2^40
-pub record IsGap (gap : ℕ) : Type 0 where
+pub record HasGap (gap : ℕ) : Type 0 where
   pub least : 1 ≤ gap
   pub most : gap ≤ 2 ^ 40
 
@@ -100,7 +100,7 @@ IsComputable (Select test a b c d) =
 IsComputable Union = Unit {0}
 IsComputable (Window size hop agg of) = HasWholeHops size hop
 IsComputable Join = Unit {0}
-IsComputable (Session gap agg of) = IsGap gap
+IsComputable (Session gap agg of) = HasGap gap
 IsComputable Except = Unit {0}
 
 -- a select and a union give at each element what it alone says

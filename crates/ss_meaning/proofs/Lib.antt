@@ -17,6 +17,7 @@ pub mod Arriving
 pub mod EntryFinds
 pub mod EntryPuts
 pub mod EntryEnds
+pub mod ByTime
 pub mod Aggregates
 pub mod EntryLooks
 pub mod EntrySteps

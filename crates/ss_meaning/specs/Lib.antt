@@ -5,6 +5,7 @@ pub mod Low
 pub mod Inputs
 pub mod Window
 pub mod Join
+pub mod ByTime
 pub mod Session
 pub mod Except
 pub mod Emit
