@@ -20,5 +20,7 @@ pub mod Aggregates
 pub mod EntryLooks
 pub mod EntrySteps
 pub mod JoinSides
+pub mod ExceptSides
+pub mod ExceptEnds
 pub mod InputBounds
 pub mod Sorting

@@ -19,3 +19,5 @@ pub mod Jobs
 pub mod Laws
 pub mod EntryLaws
 pub mod JoinLaws
+pub mod ExceptLaws
+pub mod ExceptExamples

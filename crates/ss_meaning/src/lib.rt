@@ -6,6 +6,7 @@
 
 mod entry_laws;
 mod examples;
+mod except_laws;
 mod join_laws;
 mod laws;
 mod wrong_meanings;
@@ -15,6 +16,7 @@ pub use examples::{
     entry_examples, entry_step_examples, job_example, join_examples, merge_examples,
     window_examples,
 };
+pub use except_laws::{absent_rows_follow, except_examples};
 pub use join_laws::join_sides_follow;
 pub use laws::{
     bound_is_that_of_valid_lists, bounds_tell_what_is_next, counts_never_fall,
