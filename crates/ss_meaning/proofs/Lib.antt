@@ -18,9 +18,12 @@ pub mod EntryFinds
 pub mod EntryPuts
 pub mod EntryEnds
 pub mod ByTime
+pub mod SessionsClosed
 pub mod Aggregates
 pub mod EntryLooks
 pub mod EntrySteps
 pub mod JoinSides
+pub mod ExceptSides
+pub mod ExceptEnds
 pub mod InputBounds
 pub mod Sorting

@@ -21,3 +21,5 @@ pub mod Laws
 pub mod EntryLaws
 pub mod JoinLaws
 pub mod SessionRows
+pub mod ExceptLaws
+pub mod ExceptExamples
