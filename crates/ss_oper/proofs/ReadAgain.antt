@@ -16,7 +16,9 @@ use Rattle.ss_join.specs.ImageLaws.{IsTaken}
 use Rattle.ss_join.specs.ImageLaws as join
 use Rattle.ss_join.specs.States.{Sides}
 use Rattle.ss_meaning.specs.Bound.{row_of, rows, bound}
-use Rattle.ss_meaning.specs.Entries.{entries_after, entry_count, window_entries, join_side}
+use Rattle.ss_meaning.specs.Emit.{Except}
+use Rattle.ss_meaning.specs.Entries.{entries_after, entry_count, window_entries, join_side, alone_side}
+use Rattle.ss_meaning.specs.Except.{is_alone}
 use Rattle.ss_meaning.specs.Inputs.{bounds}
 use Rattle.ss_meaning.specs.Laws.{ArrivalsMayFollow}
 use Rattle.ss_meaning.specs.Low.{low}
@@ -127,15 +129,37 @@ join_again law p kept follow count =
     let sides : Sides = record { left = join_side 0 p; right = join_side 1 p } in
     ap as_join (law sides p (bounds 2 p) refl (record { left = refl; right = refl }) (taken_side 0 p kept follow) (taken_side 1 p kept follow) count)
 
-pub images_again : ArrivalsMayFollow → window.StatesAreReadAgain → join.StatesAreReadAgain → ImagesAreReadAgain
-images_again follows windows joins (spec.Select test a b c d) lists p rest computable takes whole split kept few count = refl
-images_again follows windows joins spec.Union lists p rest computable takes whole split kept few count = refl
-images_again follows windows joins (spec.Window size hop agg of) lists p rest computable takes whole split kept few count =
+-- a join by absence remembers rows of its inputs too
+except_again : join.StatesAreReadAgainAs Except → (p : List Arrival) → All MayArriveAt p → All Follows p → entry_count (entries_after (operator_of spec.Except) 2 p) < 2 ^ 32
+    → remembered spec.Except (bounds 2 p) (image_of (entries_after (operator_of spec.Except) 2 p)) ≡ Ok (entries_after (operator_of spec.Except) 2 p)
+except_again law p kept follow count =
+    let lefts = rows (from_input 0 p) in
+    let rights = rows (from_input 1 p) in
+    let sides : Sides = record { left = alone_side p; right = join_side 1 p } in
+    let alone_taken : All IsTaken (alone_side p) =
+    All-from_recursion IsTaken (alone_side p)
+    (taken_above (λ (row : Event). nat_lt (bound (from_input 1 p)) row.end) (filter (is_alone rights) lefts)
+    (taken_above (is_alone rights) lefts (taken_rows 0 p (recursion_from_All MayArriveAt p kept) (recursion_from_All Follows p follow)))) in
+    ap as_join (law sides p (bounds 2 p) refl (record { left = refl; right = refl }) alone_taken (taken_side 1 p kept follow) count)
+
+pub images_again : ArrivalsMayFollow → window.StatesAreReadAgain → join.StatesAreReadAgain → join.StatesAreReadAgainAs Except → session.StatesAreReadAgain → ImagesAreReadAgain
+images_again follows windows joins excepts sessions (spec.Select test a b c d) lists p rest computable takes whole split kept few count = refl
+images_again follows windows joins excepts sessions spec.Union lists p rest computable takes whole split kept few count = refl
+images_again follows windows joins excepts sessions (spec.Window size hop agg of) lists p rest computable takes whole split kept few count =
     let s = spec.Window size hop agg of in
     let kind = operator_of s in
     subst (λ w. entry_count (entries_after kind w p) < 2 ^ 32 → remembered s (bounds w p) (image_of (entries_after kind w p)) ≡ Ok (entries_after kind w p))
     (sym takes.0) (window_again windows size hop agg of p computable kept few) count
-images_again follows windows joins spec.Join lists p rest computable takes whole split kept few count =
+images_again follows windows joins excepts sessions spec.Join lists p rest computable takes whole split kept few count =
     let kind = operator_of spec.Join in
     subst (λ w. entry_count (entries_after kind w p) < 2 ^ 32 → remembered spec.Join (bounds w p) (image_of (entries_after kind w p)) ≡ Ok (entries_after kind w p))
     (sym takes) (join_again joins p kept (all_follow follows lists p rest whole split)) count
+images_again follows windows joins excepts sessions (spec.Session gap agg of) lists p rest computable takes whole split kept few count =
+    let s = spec.Session gap agg of in
+    let kind = operator_of s in
+    subst (λ w. entry_count (entries_after kind w p) < 2 ^ 32 → remembered s (bounds w p) (image_of (entries_after kind w p)) ≡ Ok (entries_after kind w p))
+    (sym takes.0) (session_again sessions gap agg of p computable kept few) count
+images_again follows windows joins excepts sessions spec.Except lists p rest computable takes whole split kept few count =
+    let kind = operator_of spec.Except in
+    subst (λ w. entry_count (entries_after kind w p) < 2 ^ 32 → remembered spec.Except (bounds w p) (image_of (entries_after kind w p)) ≡ Ok (entries_after kind w p))
+    (sym takes) (except_again excepts p kept (all_follow follows lists p rest whole split)) count

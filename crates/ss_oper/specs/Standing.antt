@@ -4,9 +4,9 @@ use Rattle.std.specs.Prelude.{Result, Ok, Err}
 use Rattle.ss_elem.specs.declared.element.Element.{Element}
 use Rattle.ss_expr.specs.Operators.{operator_of}
 use Rattle.ss_expr.specs.declared.stream_operator.Spec.{Spec}
-use Rattle.ss_expr.specs.declared.stream_operator.Spec.TheVariants.{Select, Union, Window, Join}
+use Rattle.ss_expr.specs.declared.stream_operator.Spec.TheVariants.{Select, Union, Window, Join, Session, Except}
 use Rattle.ss_meaning.specs.Emit.{Kind, emit}
-use Rattle.ss_meaning.specs.Entries.{Entries, NoEntries, WindowEntries, JoinRows, WindowEntry, entries_after}
+use Rattle.ss_meaning.specs.Entries.{Entries, NoEntries, WindowEntries, JoinRows, SessionEntries, WindowEntry, entries_after}
 use Rattle.ss_join.specs.ImageTests as join
 use Rattle.ss_join.specs.States.{Sides, MayFollow}
 use Rattle.ss_meaning.specs.Inputs.{least_bound}
@@ -14,6 +14,9 @@ use Rattle.ss_meaning.specs.Jobs.{Takes}
 use Rattle.ss_meaning.specs.Low.{low}
 use Rattle.ss_meaning.specs.Merge.{Arrival}
 use Rattle.ss_merge.specs.Merging.{MergerState, StandsAfter, arriving}
+use Rattle.ss_meaning.specs.Session.{SessionEntry}
+use Rattle.ss_session.specs.ImageTests as session
+use Rattle.ss_session.specs.States as sessions
 use Rattle.ss_window.specs.ImageTests as window
 use Rattle.ss_window.specs.States.{CountsFew}
 
@@ -63,16 +66,22 @@ CountsGiven merger input x state count =
     → StandsAfter merger (p ++ arriving input x ∷ [])
     → count ≡ length (emit (operator_of state.spec) (length merger.bounds) p (arriving input x))
 
--- no entry of a window counts 2^62 rows
+-- no entry of a window and no session counts 2^62 rows
 abbrev pub CountFew : Entries → Type 0
 CountFew NoEntries = Unit {0}
 CountFew (WindowEntries es) = All CountsFew es
 CountFew (JoinRows left right) = Unit {0}
+CountFew (SessionEntries es) = All sessions.CountsFew es
 
 -- the entries of a window as what is remembered
 abbrev pub as_window : Result (List WindowEntry) ℕ → Result Entries ℕ
 as_window (Ok es) = Ok (WindowEntries es)
 as_window (Err at) = Err at
+
+-- the sessions that are open as what is remembered
+abbrev pub as_sessions : Result (List SessionEntry) ℕ → Result Entries ℕ
+as_sessions (Ok es) = Ok (SessionEntries es)
+as_sessions (Err at) = Err at
 
 -- the rows of a join as what is remembered
 abbrev pub as_join : Result Sides ℕ → Result Entries ℕ
@@ -90,3 +99,5 @@ remembered (Select test a b c d) bounds bytes = nothing_in bytes
 remembered Union bounds bytes = nothing_in bytes
 remembered (Window size hop agg of) bounds bytes = as_window (window.image_read hop agg (least_bound bounds) bytes)
 remembered Join bounds bytes = as_join (join.image_read bounds bytes)
+remembered (Session gap agg of) bounds bytes = as_sessions (session.image_read gap agg (least_bound bounds) bytes)
+remembered Except bounds bytes = as_join (join.image_read bounds bytes)

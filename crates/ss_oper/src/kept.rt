@@ -13,8 +13,9 @@ use ss_elem::{Bound, Element, Out};
 use ss_expr::{Spec, row_given};
 use ss_image::ImageFault;
 use ss_join::Join;
-use ss_meaning::entries_follow;
+use ss_meaning::{entries_follow, sessions_close_in_time, sessions_follow};
 use ss_merge::Merger;
+use ss_session::{Except, Session};
 use ss_window::Window;
 use std::alloc::{AllocError, Global};
 
@@ -27,6 +28,10 @@ pub(crate) enum Kept {
     Hopping(Window),
     /// A join, with what it remembers.
     Joining(Join),
+    /// A session window, with what it remembers.
+    InSessions(Session),
+    /// A join by absence, with what it remembers.
+    Excepting(Except),
 }
 
 /// What is kept of the operator before any element.
@@ -44,6 +49,11 @@ pub(crate) fn kept_before_all(alloc: Global, spec: &Spec) -> Result<Kept, AllocE
         Spec::Select { .. } => Ok(Kept::RowByRow(spec.copied(alloc)?)),
         Spec::Union => Ok(Kept::RowByRow(Spec::Union)),
         Spec::Join => Ok(Kept::Joining(Join::new(alloc))),
+        Spec::Session { gap, agg, of } => {
+            let session = Session::new(alloc, *gap, *agg, *of);
+            Ok(Kept::InSessions(session))
+        }
+        Spec::Except => Ok(Kept::Excepting(Except::new(alloc))),
     }
 }
 
@@ -76,6 +86,12 @@ pub(crate) fn kept_of_image(
             Ok(Kept::RowByRow(Spec::Union))
         }
         Spec::Join => Ok(Kept::Joining(Join::of_image(alloc, merger.bounds(), bytes)?)),
+        Spec::Session { gap, agg, of } => {
+            let low = merger.low();
+            let session = Session::of_image(alloc, *gap, *agg, *of, low, bytes)?;
+            Ok(Kept::InSessions(session))
+        }
+        Spec::Except => Ok(Kept::Excepting(Except::of_image(alloc, merger.bounds(), bytes)?)),
     }
 }
 
@@ -121,17 +137,28 @@ pub(crate) fn give_rows(
         }
         Kept::Hopping(window) => window.step(x, low, out),
         Kept::Joining(join) => join.step(side_of(input), x, bounds, out),
+        Kept::InSessions(session) => session.step(x, low, out),
+        Kept::Excepting(except) => except.step(side_of(input), x, bounds, out),
     }
 }
 
-/// How many rows the operator gives at an element of this input, after which Low is `low`.
-pub(crate) fn count_rows(kept: &Kept, input: u32, x: &Element, low: Bound) -> u64
+/// How many rows the operator gives at an element of this input, after which Low is `low` and the inputs have these
+/// bounds.
+pub(crate) fn count_rows(
+    kept: &Kept,
+    input: u32,
+    x: &Element,
+    low: Bound,
+    bounds: [u64; 8],
+) -> u64
     requires kept { IsKept kept.now }
     requires early { IsBefore (2 ^ 63) x.now }
-    ensures rows { CountsRows kept.now input x.now low result }
+    ensures rows { CountsRows kept.now input x.now low bounds result }
     ensures few { result < 2 ^ 63 }
 {
     entries_follow();
+    sessions_follow();
+    sessions_close_in_time();
     match kept {
         Kept::RowByRow(spec) => match row_given(spec, x) {
             Some(_) => 1,
@@ -139,6 +166,8 @@ pub(crate) fn count_rows(kept: &Kept, input: u32, x: &Element, low: Bound) -> u6
         },
         Kept::Hopping(window) => window.due(low),
         Kept::Joining(join) => join.count_given(side_of(input), x),
+        Kept::InSessions(session) => session.due(low),
+        Kept::Excepting(except) => except.count_given(side_of(input), x, bounds),
     }
 }
 

@@ -9,4 +9,5 @@ pub fn images_are_read_again()
     merge_keeps_each_input();
     ss_window::images_are_read_again();
     ss_join::images_are_read_again();
+    ss_session::images_are_read_again();
 }

@@ -91,14 +91,14 @@ impl Oper {
         ensures few { result ≤ 2 ^ 63 }
     {
         let after = merger.low();
-        let rows = count_rows(&self.kept, input, x, after);
+        let rows = count_rows(&self.kept, input, x, after, merger.bounds());
         match told_rise(self.low, after) {
             Some(_) => rows + 1,
             None => rows,
         }
     }
 
-    /// Whether no entry of a window counts 2^62 rows, so that the operator may take an element.
+    /// Whether no entry of a window and no session counts 2^62 rows, so that the operator may take an element.
     pub fn counts_few(&self) -> bool
         ensures { IsTrue result ↔ CountFew self.now.entries }
     {
@@ -106,6 +106,8 @@ impl Oper {
             Kept::RowByRow(_) => true,
             Kept::Hopping(window) => window.counts_few(),
             Kept::Joining(_) => true,
+            Kept::InSessions(session) => session.counts_few(),
+            Kept::Excepting(_) => true,
         }
     }
 
@@ -117,6 +119,8 @@ impl Oper {
             Kept::RowByRow(_) => 0,
             Kept::Hopping(window) => window.held(),
             Kept::Joining(join) => join.held(),
+            Kept::InSessions(session) => session.held(),
+            Kept::Excepting(except) => except.held(),
         }
     }
 
@@ -132,6 +136,8 @@ impl Oper {
             Kept::RowByRow(_) => Ok(()),
             Kept::Hopping(window) => window.image(out),
             Kept::Joining(join) => join.image(out),
+            Kept::InSessions(session) => session.image(out),
+            Kept::Excepting(except) => except.image(out),
         }
     }
 

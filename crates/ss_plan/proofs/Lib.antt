@@ -3,7 +3,8 @@ pub mod Beginnings
 pub mod Cuts
 pub mod Everything
 pub mod Gathering
-pub mod JoinSteps
+pub mod SideSteps
+pub mod SessionSteps
 pub mod Keeping
 pub mod KeyOrder
 pub mod Marks

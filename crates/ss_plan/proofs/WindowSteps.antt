@@ -28,7 +28,7 @@ least_after b (Row row) h = refl
 least_after b (Cti time) h = omega (arith, h)
 least_after b End h = omega arith
 
-low-push : (p : List Arrival) (x : Element) → IsBefore (2 ^ 63) x → bound_after (low 1 p) x ≡ low 1 (p ++ arrival x ∷ [])
+pub low-push : (p : List Arrival) (x : Element) → IsBefore (2 ^ 63) x → bound_after (low 1 p) x ≡ low 1 (p ++ arrival x ∷ [])
 low-push p x h =
     least_after (bound (from_input 0 p)) x h
     ∙ sym (ap (λ n. min n top) (ap bound (from_input-push p x) ∙ bound_past-push 0 (from_input 0 p) x))

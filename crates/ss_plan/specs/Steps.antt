@@ -4,8 +4,8 @@ use Rattle.std.specs.Prelude.{slice_set}
 use Rattle.ss_elem.specs.declared.element.Element.{Element}
 use Rattle.ss_elem.specs.declared.element.Element.TheVariants.{Row}
 use Rattle.ss_meaning.specs.Bound.{bound_after}
-use Rattle.ss_join.specs.States.{Sides, StandsAfter, MayFollow}
-use Rattle.ss_meaning.specs.Emit.{Kind, Join, rows_at, emit}
+use Rattle.ss_join.specs.States.{Sides, StandsAs, MayFollow}
+use Rattle.ss_meaning.specs.Emit.{Kind, rows_at, emit}
 use Rattle.ss_meaning.specs.Inputs.{bounds, least_bound}
 use Rattle.ss_meaning.specs.Low.{low, advance}
 use Rattle.ss_meaning.specs.Merge.{Arrival}
@@ -30,9 +30,9 @@ Adds kind x bounds before after =
 abbrev pub EachMayFollow : List Arrival → Type 0
 EachMayFollow arrived = (n : ℕ) (x : Arrival) → n < length arrived → MayFollow (take n arrived) (get_or arrived n x)
 
--- behind each p after which a join stood, where these are the bounds after p and x may follow: the join stands after
--- both, and the elements grew by exactly what it gives at x
-abbrev pub JoinSteps : Sides → Sides → List ℕ → List Element → List Element → Arrival → Type 0
-JoinSteps old new stood before after x =
-    (p : List Arrival) → StandsAfter old p → stood ≡ bounds 2 p → MayFollow p x
-    → StandsAfter new (p ++ x ∷ []) × (after ≡ before ++ emit Join 2 p x)
+-- behind each p after which these sides stood for an operator of this kind, where these are the bounds after p and x may
+-- follow: the sides stand for it after both, and the elements grew by exactly what it gives at x
+abbrev pub SideSteps : Kind → Sides → Sides → List ℕ → List Element → List Element → Arrival → Type 0
+SideSteps kind old new stood before after x =
+    (p : List Arrival) → StandsAs kind old p → stood ≡ bounds 2 p → MayFollow p x
+    → StandsAs kind new (p ++ x ∷ []) × (after ≡ before ++ emit kind 2 p x)

@@ -3,7 +3,8 @@ ghost use Rattle.std.specs.Option.{option_to_list};
 ghost use Rattle.ss_expr.specs.Operators.{operator_of};
 ghost use Rattle.ss_expr.specs.declared.stream_operator.Spec.TheVariants as spec;
 ghost use Rattle.ss_meaning.specs.Emit.{output};
-ghost use Rattle.ss_plan.specs.Steps.{moved, EachMayFollow, JoinSteps};
+ghost use Rattle.ss_meaning.specs.Emit as meaning;
+ghost use Rattle.ss_plan.specs.Steps.{moved, EachMayFollow, SideSteps};
 
 use crate::arrived::Arrived;
 use crate::bounds::Bounds;
@@ -39,7 +40,8 @@ fn step(join: &mut Join, x: &Arrived, bounds: &mut Bounds, out: &mut Out) -> Res
     requires two { length bounds.old ≡ 2 }
     requires input { x.now.input < 2 }
     ensures bounds { OnOk result (bounds.new ≡ moved bounds.old x.now) }
-    ensures given { OnOk result (JoinSteps join.old join.new bounds.old out.old.elements out.new.elements x.now) }
+    ensures given { OnOk result (
+        SideSteps meaning.Join join.old join.new bounds.old out.old.elements out.new.elements x.now) }
 {
     bounds_tell_what_is_next();
     let mark = bounds.advance(x.input, &x.element);
@@ -50,7 +52,7 @@ fn step(join: &mut Join, x: &Arrived, bounds: &mut Bounds, out: &mut Out) -> Res
 }
 
 /// Appends an element where there is one.
-fn push_mark(out: &mut Out, mark: Option<Element>)
+pub(crate) fn push_mark(out: &mut Out, mark: Option<Element>)
     requires { 1 ≤ out.old.spare }
     ensures { out.new.elements ≡ out.old.elements ++ option_to_list mark }
 {

@@ -4,6 +4,7 @@
 mod arrived;
 mod bounds;
 mod fault;
+mod excepts;
 mod joins;
 mod laws;
 mod merging;
@@ -12,6 +13,7 @@ mod operating;
 mod plain_streams;
 mod plan;
 mod segment;
+mod sessions;
 mod sources;
 mod stream;
 mod streams;

@@ -8,7 +8,9 @@ ghost use Rattle.ss_elem.specs.declared.element.Element.TheVariants.{Row};
 
 use crate::arrived::Arrived;
 use crate::bounds::Bounds;
+use crate::excepts::except_output;
 use crate::joins::join_output;
+use crate::sessions::session_output;
 use crate::windows::window_output;
 use ss_elem::{Element, Event};
 use ss_expr::{Spec, row_given};
@@ -40,6 +42,8 @@ pub(crate) fn operator_output(
             window_output(alloc, *size, *hop, *agg, *of, width, arrived)
         }
         Spec::Join => join_output(alloc, width, arrived),
+        Spec::Session { gap, agg, of } => session_output(alloc, *gap, *agg, *of, width, arrived),
+        Spec::Except => except_output(alloc, width, arrived),
     }
 }
 

@@ -1,21 +1,17 @@
-ghost use Rattle.std.specs.Prelude.{◌≡◌, ◌≤◌, ◌<◌, ◌^◌, ◌++◌, All, IfOk};
-ghost use Rattle.std.specs.Option.{option_to_list};
+ghost use Rattle.std.specs.Prelude.{◌≡◌, ◌≤◌, ◌<◌, ◌^◌, All, IfOk};
 ghost use Rattle.ss_expr.specs.Operators.{operator_of, HasWholeHops};
 ghost use Rattle.ss_expr.specs.declared.stream_operator.Spec.TheVariants as spec;
-ghost use Rattle.ss_meaning.specs.Bound.{bound_after};
 ghost use Rattle.ss_meaning.specs.Emit.{output};
 ghost use Rattle.ss_meaning.specs.Jobs.{IsBefore};
-ghost use Rattle.ss_meaning.specs.Low.{advance};
 ghost use Rattle.ss_plan.specs.Steps.{NeverFalls};
 
 use crate::arrived::Arrived;
+use crate::one_input::{MOST_ARRIVALS, bound_behind, push_rise};
 use ss_elem::{Bound, Element, Out};
 use ss_expr::{Agg, Field};
 use ss_meaning::output_only_grows;
 use ss_window::{Window, few_arrivals_are_few_rows};
 use std::alloc::{AllocError, Global};
-
-const MOST_ARRIVALS: usize = 1 << 62;
 
 /// What a window gives over all that arrives from its one input.
 pub(crate) fn window_output(
@@ -50,40 +46,4 @@ pub(crate) fn window_output(
         bound = next;
     }
     Vec::from_slice(alloc, out.as_slice())
-}
-
-/// The bound of the input behind an element.
-fn bound_behind(bound: Bound, x: &Element) -> Bound
-    requires { IsBefore (2 ^ 63) x.now }
-    ensures { result ≡ bound_after bound x.now }
-{
-    match x {
-        Element::Row(_) => bound,
-        Element::Cti(time) => Bound::at(*time),
-        Element::End => Bound::TOP,
-    }
-}
-
-/// Appends what tells that the bound rose, where it did.
-fn push_rise(out: &mut Out, before: Bound, after: Bound)
-    requires { 1 ≤ out.old.spare }
-    ensures { out.new.elements ≡ out.old.elements ++ advance before after }
-{
-    match told_rise(before, after) {
-        Some(mark) => out.push(mark),
-        None => (),
-    }
-}
-
-fn told_rise(before: Bound, after: Bound) -> Option<Element>
-    ensures { option_to_list result ≡ advance before after }
-{
-    if before >= after {
-        return None;
-    }
-    if after < Bound::TOP {
-        Some(Element::Cti(after.get()))
-    } else {
-        Some(Element::End)
-    }
 }
