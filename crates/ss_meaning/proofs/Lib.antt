@@ -22,3 +22,7 @@ pub mod EntrySteps
 pub mod JoinSides
 pub mod InputBounds
 pub mod Sorting
+pub mod SessionPuts
+pub mod SessionSteps
+pub mod SessionKeys
+pub mod SessionRises

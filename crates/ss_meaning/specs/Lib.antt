@@ -19,3 +19,6 @@ pub mod Jobs
 pub mod Laws
 pub mod EntryLaws
 pub mod JoinLaws
+pub mod SessionLists
+pub mod SessionLaws
+pub mod SessionExamples
