@@ -145,7 +145,7 @@ is_read f v_fits n_fits is_frame =
     record {
       tests =
           passes _ _ _ (le-leb 23 (length bytes) (omega (arith, total, front_len)))
-          (passes _ _ _ (and_from (leb 1 f.op) (leb f.op 4) (le-leb 1 f.op code.op.0) (le-leb f.op 4 code.op.1))
+          (passes _ _ _ (and_from (leb 1 f.op) (leb f.op 6) (le-leb 1 f.op code.op.0) (le-leb f.op 6 code.op.1))
           (passes _ _ _ (and_from (leb 1 f.width) (leb f.width 8) (le-leb 1 f.width code.width.0) (le-leb f.width 8 le))
           (passes _ _ _ (le-leb (27 + 16 * f.width) (length bytes) (omega (arith, total, front_len)))
           (passes _ _ _ (le-leb (59 + 16 * f.width + image_len f.width bytes) (length bytes) (omega (arith, total, front_len, len)))

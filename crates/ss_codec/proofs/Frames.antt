@@ -74,7 +74,7 @@ are_entries width place bytes fits le = record {
 -- what the tests tell
 pub record IsCoded (width v n : ℕ) (bytes : List ℕ) : Type 0 where
   pub form : slice_index bytes 0 ≡ 0x11
-  pub op : (1 ≤ slice_index bytes 1) × (slice_index bytes 1 ≤ 4)
+  pub op : (1 ≤ slice_index bytes 1) × (slice_index bytes 1 ≤ 6)
   pub width_is : (1 ≤ width) × (width ≤ 8)
   pub len : length bytes ≡ 59 + 16 * width + image_len width bytes
   pub digest : drop (27 + 16 * width + image_len width bytes) bytes ≡ sha256 (take (27 + 16 * width + image_len width bytes) bytes)
@@ -103,7 +103,7 @@ is_coded width v n bytes e =
     let sealed_at : drop (59 + 16 * width + image_len width bytes - 32) bytes ≡ sha256 (take (59 + 16 * width + image_len width bytes - 32) bytes) = (bytes_eq-Decides _ _).0 p7.0 in
     record {
       form = eqb-true _ _ p1.0;
-      op = between 1 4 (slice_index bytes 1) p2.0;
+      op = between 1 6 (slice_index bytes 1) p2.0;
       width_is = between 1 8 width p3.0;
       len = omega arith;
       digest = subst (λ (m : ℕ). drop m bytes ≡ sha256 (take m bytes)) front sealed_at;

@@ -26,7 +26,7 @@ frame_bytes f = sealed (frame_front f)
 
 -- what a frame needs to have a code: the op of an inner vertex, 1 to 8 inputs, and bounds and an image in range
 pub record HasCode (f : Frame) : Type 0 where
-  pub op : (1 ≤ f.op) × (f.op ≤ 4)
+  pub op : (1 ≤ f.op) × (f.op ≤ 6)
   pub width : (1 ≤ f.width) × (f.width ≤ 8)
   pub bounds : (k : ℕ) → k < f.width → slice_index f.bounds k ≤ top
   pub image : length f.image < 2 ^ 32

@@ -41,7 +41,7 @@ frame_at width bytes = record {
 abbrev pub head_tests : ℕ → List ℕ → List Test
 head_tests width bytes =
     has_bytes 23 bytes ∷ has_tag 0 (slice_index bytes 0 == 0x11)
-    ∷ has_tag 1 (nat_le 1 (slice_index bytes 1) && nat_le (slice_index bytes 1) 4)
+    ∷ has_tag 1 (nat_le 1 (slice_index bytes 1) && nat_le (slice_index bytes 1) 6)
     ∷ has_value 22 (nat_le 1 width && nat_le width 8) ∷ has_bytes (27 + 16 * width) bytes ∷ []
 
 -- the bound of each of so many inputs, of which the first stands at this place

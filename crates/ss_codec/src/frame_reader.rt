@@ -74,7 +74,7 @@ fn code_len(bytes: &[u8]) -> Result<usize, CodecFault>
     if bytes[0] != FRAME_FORM {
         return Err(CodecFault::BadTag { at: 0 });
     }
-    if bytes[1] < 1 || bytes[1] > 4 {
+    if bytes[1] < 1 || bytes[1] > 6 {
         return Err(CodecFault::BadTag { at: 1 });
     }
     let width = bytes[22] as usize;

@@ -17,7 +17,7 @@ use Rattle.ss_expr.specs.declared.stream_operator.Agg.TheVariants.{Sum, Least, G
 use Rattle.ss_expr.specs.declared.stream_operator.Field.{Field}
 use Rattle.ss_expr.specs.declared.stream_operator.Field.TheVariants.{A, B, C, D}
 use Rattle.ss_expr.specs.declared.stream_operator.Spec.{Spec}
-use Rattle.ss_expr.specs.declared.stream_operator.Spec.TheVariants.{Select, Union, Window, Join}
+use Rattle.ss_expr.specs.declared.stream_operator.Spec.TheVariants.{Select, Union, Window, Join, Session, Except}
 use Rattle.ss_expr.specs.declared.value.Value.{Value}
 use Rattle.ss_expr.specs.declared.value.Value.TheVariants.{Num, Text, Truth}
 
@@ -63,13 +63,17 @@ selection_of test a b c d = record {
 abbrev pub selected : Option Tree → Tree → Tree → Tree → Tree → Event → Option Event
 selected test a b c d row = if passes test row then Some (revalued (selection_of test a b c d) row) else None
 
--- the operator that a spec says: a select by the values of its expressions, a window by its aggregate and its field
+-- the operator that a spec says: a select by the values of its expressions, a window and a session by their aggregate
+-- and their field
 abbrev pub operator_of : Spec → Kind
 operator_of (Select test a b c d) = meaning.Select (selection_of test a b c d)
 operator_of Union = meaning.Union
 operator_of (Window size hop agg of) =
     meaning.Hopping (record { size = size; hop = hop; aggregate = aggregate_of agg; field = field_of of })
 operator_of Join = meaning.Join
+operator_of (Session gap agg of) =
+    meaning.Session (record { gap = gap; aggregate = aggregate_of agg; field = field_of of })
+operator_of Except = meaning.Except
 
 -- the hop of a window is 1 to 2^40, and its size is 1 to 64 whole hops
 pub record HasWholeHops (size hop : ℕ) : Type 0 where
@@ -79,17 +83,25 @@ pub record HasWholeHops (size hop : ℕ) : Type 0 where
   pub most_size : size ≤ 64 * hop
   pub whole : size % hop ≡ 0
 
+-- the gap of a session is 1 to 2^40
+pub record HasGap (gap : ℕ) : Type 0 where
+  pub least : 1 ≤ gap
+  pub most : gap ≤ 2 ^ 40
+
 -- the test of a select, where there is one, is a truth
 abbrev pub IsTest : Option Tree → Type 0
 IsTest test = IfSome test (λ e. HasKind e kind.Truth)
 
--- a spec can be computed: a select's expressions are of the right kinds, and a window has whole hops
+-- a spec can be computed: a select's expressions are of the right kinds, a window has whole hops, and a session a gap
+-- that is neither none nor too long
 abbrev pub IsComputable : Spec → Type 0
 IsComputable (Select test a b c d) =
     IsTest test × HasKind a kind.Num × HasKind b kind.Num × HasKind c kind.Num × HasKind d kind.Num
 IsComputable Union = Unit {0}
 IsComputable (Window size hop agg of) = HasWholeHops size hop
 IsComputable Join = Unit {0}
+IsComputable (Session gap agg of) = HasGap gap
+IsComputable Except = Unit {0}
 
 -- a select and a union give at each element what it alone says
 abbrev pub is_row_by_row : Spec → Bool
@@ -97,6 +109,8 @@ is_row_by_row (Select test a b c d) = true
 is_row_by_row Union = true
 is_row_by_row (Window size hop agg of) = false
 is_row_by_row Join = false
+is_row_by_row (Session gap agg of) = false
+is_row_by_row Except = false
 
 -- these are the rows that the operator gives where x arrives, whatever arrived before
 abbrev pub AreRowsAt : Spec → Element → List Event → Type 0

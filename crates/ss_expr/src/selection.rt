@@ -75,5 +75,7 @@ fn row_for(spec: &Spec, row: &Event) -> Option<Event>
         Spec::Union => Some(*row),
         Spec::Window { .. } => unreachable!(),
         Spec::Join => unreachable!(),
+        Spec::Session { .. } => unreachable!(),
+        Spec::Except => unreachable!(),
     }
 }

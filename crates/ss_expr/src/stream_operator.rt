@@ -25,6 +25,10 @@ pub enum Spec {
     },
     /// The pairs of rows of two inputs with one key and overlapping spans.
     Join,
+    /// An aggregate of each session: the rows of a key of which each starts less than `gap` after the one before.
+    Session { gap: u64, agg: Agg, of: Field },
+    /// The rows of the first of two inputs that no row of the second with their key overlaps.
+    Except,
 }
 
 impl Spec {
@@ -49,6 +53,12 @@ impl Spec {
                 of: *of,
             }),
             Spec::Join => Ok(Spec::Join),
+            Spec::Session { gap, agg, of } => Ok(Spec::Session {
+                gap: *gap,
+                agg: *agg,
+                of: *of,
+            }),
+            Spec::Except => Ok(Spec::Except),
         }
     }
 }
@@ -65,7 +75,7 @@ fn copied_test(alloc: Global, test: &Option<Expr>) -> Result<Option<Expr>, Alloc
     }
 }
 
-/// What a window makes of the values of its rows.
+/// What a window or a session makes of the values of its rows.
 #[derive(Clone, Copy, Debug, PartialEq, Eq)]
 pub enum Agg {
     /// Their exact sum, and then the nearest number of 64 bits.

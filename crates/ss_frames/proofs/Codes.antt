@@ -15,10 +15,10 @@ use Rattle.ss_expr.specs.Operators.{operator_of}
 use Rattle.ss_expr.specs.declared.stream_operator.Spec.{Spec}
 use Rattle.ss_expr.specs.declared.stream_operator.Spec.TheVariants as spec
 use Rattle.ss_image.specs.Images.{image_of}
-use Rattle.ss_image.specs.Laws.{WindowImagesHaveLengths, JoinImagesAreShort}
+use Rattle.ss_image.specs.Laws.{WindowImagesHaveLengths, JoinImagesAreShort, SessionImagesHaveLengths}
 use Rattle.ss_job.specs.JobText.{spec_of}
 use Rattle.ss_meaning.specs.Bound.{bound, bound_past}
-use Rattle.ss_meaning.specs.Entries.{Entries, NoEntries, WindowEntries, JoinRows}
+use Rattle.ss_meaning.specs.Entries.{Entries, NoEntries, WindowEntries, JoinRows, SessionEntries}
 use Rattle.ss_meaning.specs.Jobs.{IsBefore, IsJob, MayStand}
 use Rattle.ss_meaning.specs.Laws.{MeaningIsWhole, MergeKeepsEachInput}
 use Rattle.ss_meaning.specs.Meaning.{Vertex, Inner, reads, meaning, merged}
@@ -168,18 +168,22 @@ bound_at laws plan is v n operator o input h =
 pub record LengthLaws : Type 0 where
   pub window : WindowImagesHaveLengths
   pub join : JoinImagesAreShort
+  pub session : SessionImagesHaveLengths
   pub frame : FramesHaveLengths
 
 image_short : LengthLaws → (entries : Entries) → AreFew entries → length (image_of entries) < 2 ^ 31
 image_short laws NoEntries few = omega arith
 image_short laws (WindowEntries es) few = let short = few.0 in omega (arith, laws.window es, short)
 image_short laws (JoinRows left right) few = omega (arith, laws.join left right, few)
+image_short laws (SessionEntries es) few = let short = few.0 in omega (arith, laws.session es, short)
 
-op_is : (operator : Spec) → (1 ≤ op_number operator) × (op_number operator ≤ 4)
+op_is : (operator : Spec) → (1 ≤ op_number operator) × (op_number operator ≤ 6)
 op_is (spec.Select test a b c d) = (omega arith, omega arith)
 op_is spec.Union = (omega arith, omega arith)
 op_is (spec.Window size hop agg of) = (omega arith, omega arith)
 op_is spec.Join = (omega arith, omega arith)
+op_is (spec.Session gap agg of) = (omega arith, omega arith)
+op_is spec.Except = (omega arith, omega arith)
 
 -- ---- the code
 

@@ -2,7 +2,9 @@
 use Rattle.std.proofs.Common.{◌≡◌, ℕ, zero, suc, ◌+◌, ◌-◌, ◌*◌, ◌/◌, ◌%◌, ◌^◌, ◌<◌, ◌≤◌, Bool, true, false, cond, ℤ, List, [], ◌∷◌, ◌++◌, length, filter, refl, sym, ap, subst, ⊎_elim, arith, append-nil, append_assoc, mul-le-mul_left, All}
 use Rattle.std.specs.Prelude.{◌+ℤ◌, nat_lt}
 use Rattle.std.specs.Int.{int_min, int_max}
-use Rattle.std.proofs.lemmas.Bool.{cases_lt}
+use Rattle.std.proofs.lemmas.Bool.{cases_lt, false≢true, ltb-true, lt-ltb}
+use Rattle.std.proofs.lemmas.List.Elements.{All-from_recursion, recursion_from_All}
+use Rattle.std.specs.List.{AllByRecursion}
 use Rattle.std.proofs.lemmas.List.{length-append}
 use Rattle.std.proofs.Math.Nat.{mul-div-le}
 use Rattle.ss_elem.specs.declared.element.Event.{Event}
@@ -14,7 +16,12 @@ use Rattle.ss_expr.specs.declared.stream_operator.Agg.TheVariants.{Sum, Least, G
 use Rattle.ss_expr.specs.declared.stream_operator.Spec.{Spec}
 use Rattle.ss_expr.specs.declared.stream_operator.Spec.TheVariants as spec
 use Rattle.ss_meaning.specs.Bound.{bound, row_of, rows}
-use Rattle.ss_meaning.specs.Entries.{WindowEntry, window_entries}
+use Rattle.ss_meaning.specs.Entries.{WindowEntry, window_entries, open_sessions}
+use Rattle.ss_meaning.specs.Except.{alone, is_alone}
+use Rattle.ss_meaning.specs.Session.{SessionWindow, SessionEntry, sessions, closing}
+use Rattle.ss_meaning.specs.SessionLaws.{JoinsBy, AggregatesJoin, SessionsAfterRow}
+use Rattle.ss_meaning.specs.SessionLists.{is_apart, joined_sessions, single_session, put_session}
+use Rattle.ss_meaning.specs.SessionRows.{IsOfRows, SessionsAreOfRows}
 use Rattle.ss_meaning.specs.EntryLaws.{GrowsBy, AggregatesGrow, EntriesAfterRow, EntriesCountRows}
 use Rattle.ss_meaning.specs.EntryLists.{is_before, is_of, single_entry, grown_entry, put_value, put_values}
 use Rattle.ss_meaning.specs.Merge.{from_input}
@@ -131,12 +138,87 @@ grows law Sum = record { join = ◌+ℤ◌; by = law.0 }
 grows law Least = record { join = int_min; by = law.1 }
 grows law Greatest = record { join = int_max; by = law.2 }
 
+-- ---- the sessions, row by row
+
+-- a session that is put makes at most one more
+put_more : (gap : ℕ) (join : ℤ → ℤ → ℤ) (s : SessionEntry) (es : List SessionEntry) → length (put_session gap join s es) ≤ length es + 1
+put_more gap join s [] = omega arith
+put_more gap join s (e ∷ es) =
+    by_tests (is_apart gap e s) (is_apart gap s e) (put_more gap join s es) (put_more gap join (joined_sessions join e s) es)
+  where
+    by_tests : (before behind : Bool) → length (put_session gap join s es) ≤ length es + 1 → length (put_session gap join (joined_sessions join e s) es) ≤ length es + 1
+        → length (cond before (e ∷ put_session gap join s es) (cond behind (s ∷ e ∷ es) (put_session gap join (joined_sessions join e s) es))) ≤ suc (length es) + 1
+    by_tests true behind rest joined = omega (arith, rest)
+    by_tests false true rest joined = omega arith
+    by_tests false false rest joined = omega (arith, joined)
+
+sessions_behind : SessionsAfterRow → (window : SessionWindow) (join : ℤ → ℤ → ℤ) → JoinsBy join window.aggregate → 1 ≤ window.gap
+    → (rest seen : List Event) → length (open_sessions window seen 0) ≤ length seen → length (open_sessions window (seen ++ rest) 0) ≤ length (seen ++ rest)
+sessions_behind law window join joins h [] seen few =
+    subst (λ (xs : List Event). length (open_sessions window xs 0) ≤ length xs) (sym (append-nil seen)) few
+sessions_behind law window join joins h (row ∷ rest) seen few =
+    let same = ap length (law window join joins h seen row 0 (omega arith)) in
+    let more = put_more window.gap join (single_session window row) (open_sessions window seen 0) in
+    let next : length (open_sessions window (seen ++ row ∷ []) 0) ≤ length (seen ++ row ∷ []) =
+    omega (arith, few, same, more, length-append seen (row ∷ [])) in
+    subst (λ (xs : List Event). length (open_sessions window xs 0) ≤ length xs) (append_assoc seen (row ∷ []) rest)
+    (sessions_behind law window join joins h rest (seen ++ row ∷ []) next)
+
+-- of what passes a test at most as much passes as of what passes a weaker one
+filter_weaker : {A : Type 0} (p q : A → Bool) → ((x : A) → p x ≡ true → q x ≡ true) → (xs : List A) → length (filter p xs) ≤ length (filter q xs)
+filter_weaker p q h [] = omega arith
+filter_weaker p q h (x ∷ xs) = by_tests (p x) (q x) (h x) (filter_weaker p q h xs)
+  where
+    by_tests : (a b : Bool) → (a ≡ true → b ≡ true) → length (filter p xs) ≤ length (filter q xs)
+        → length (cond a (x ∷ filter p xs) (filter p xs)) ≤ length (cond b (x ∷ filter q xs) (filter q xs))
+    by_tests true true k rest = omega (arith, rest)
+    by_tests true false k rest = absurd (false≢true (k refl))
+    by_tests false true k rest = omega (arith, rest)
+    by_tests false false k rest = rest
+
+few_sessions : SessionsAfterRow → (window : SessionWindow) (join : ℤ → ℤ → ℤ) → JoinsBy join window.aggregate → 1 ≤ window.gap
+    → (bound : ℕ) (seen : List Event) → length (open_sessions window seen bound) ≤ length seen
+few_sessions law window join joins h bound seen =
+    let all = sessions_behind law window join joins h seen [] (omega arith) in
+    let fewer =
+    filter_weaker (λ (s : SessionEntry). nat_lt bound (closing window.gap s)) (λ (s : SessionEntry). nat_lt 0 (closing window.gap s))
+    (λ s late. let above = ltb-true bound (closing window.gap s) late in lt-ltb 0 (closing window.gap s) (omega (arith, above)))
+    (sessions window seen) in
+    omega (arith, all, fewer)
+
+record Joins (agg : Agg) : Type 0 where
+  join : ℤ → ℤ → ℤ
+  by : JoinsBy join (aggregate_of agg)
+
+joins : AggregatesJoin → (agg : Agg) → Joins agg
+joins law Sum = record { join = ◌+ℤ◌; by = law.0 }
+joins law Least = record { join = int_min; by = law.1 }
+joins law Greatest = record { join = int_max; by = law.2 }
+
+each_kept : (P : SessionEntry → Type 0) (p : SessionEntry → Bool) (es : List SessionEntry) → AllByRecursion P es → AllByRecursion P (filter p es)
+each_kept P p [] h = tt
+each_kept P p (e ∷ es) h = by_test (p e) (each_kept P p es h.1)
+  where
+    by_test : (b : Bool) → AllByRecursion P (filter p es) → AllByRecursion P (cond b (e ∷ filter p es) (filter p es))
+    by_test true rest = (h.0, rest)
+    by_test false rest = rest
+
+sessions_count : SessionsAreOfRows → (window : SessionWindow) (seen : List Event) (bound : ℕ) → All (λ s. s.rows ≤ length seen) (open_sessions window seen bound)
+sessions_count law window seen bound i d k =
+    let all = All-from_recursion (IsOfRows seen) (open_sessions window seen bound)
+    (each_kept (IsOfRows seen) (λ (s : SessionEntry). nat_lt bound (closing window.gap s)) (sessions window seen)
+    (recursion_from_All (IsOfRows seen) (sessions window seen) (law window seen))) in
+    (all i d k).few
+
 -- ---- the laws
 
 pub record EntryLaws : Type 0 where
   pub row : EntriesAfterRow
   pub grow : AggregatesGrow
   pub counts : EntriesCountRows
+  pub session_row : SessionsAfterRow
+  pub join : AggregatesJoin
+  pub of_rows : SessionsAreOfRows
 
 -- what has arrived from an input within the job's limit
 arrived : (plan : PlanText) → IsPlan plan → (v n : ℕ) → IsWithin plan v n → (input : ℕ) → input < inputs_at plan v
@@ -145,6 +227,9 @@ arrived plan is v n within input h =
     let most = is.job.max_elements.most_of in
     let taken : pos (vertices_of plan) v n input ≤ plan.job.max_elements = within.pos input h in
     omega (arith, rows_fewer (from_input input (accepted plan v n)), most, taken)
+
+few_each : (es : List SessionEntry) (m : ℕ) → m ≤ 131072 → All (λ s. s.rows ≤ m) es → All (λ s. s.rows < 2 ^ 62) es
+few_each es m h all i d k = let here = all i d k in omega (arith, here, h)
 
 each_few : (es : List WindowEntry) (m : ℕ) → m ≤ 131072 → All (λ e. e.rows ≤ m) es → All (λ e. e.rows < 2 ^ 62) es
 each_few es m h all i d k = let here = all i d k in omega (arith, here, h)
@@ -174,6 +259,30 @@ few_at laws plan is v n spec.Join o within =
       right,
       filter_fewer (λ (row : Event). nat_lt (bound (from_input 1 p)) row.end) (rows (from_input 0 p)),
       filter_fewer (λ (row : Event). nat_lt (bound (from_input 0 p)) row.end) (rows (from_input 1 p)),
+    )
+
+few_at laws plan is v n (spec.Session gap agg of) o within =
+    let window : SessionWindow = record { gap = gap; aggregate = aggregate_of agg; field = field_of of } in
+    let seen = rows (from_input 0 (accepted plan v n)) in
+    let bound = low (inputs_at plan v) (accepted plan v n) in
+    let j = joins laws.join agg in
+    let few = few_sessions laws.session_row window j.join j.by o.sound.least_of bound seen in
+    let short = arrived plan is v n within 0 (let one = o.least in omega (arith, one)) in
+    (omega (arith, few, short), few_each (open_sessions window seen bound) (length seen) short (sessions_count laws.of_rows window seen bound))
+few_at laws plan is v n spec.Except o within =
+    let p = accepted plan v n in
+    let two = o.fewest in
+    let left = arrived plan is v n within 0 (omega (arith, two)) in
+    let right = arrived plan is v n within 1 (omega (arith, two)) in
+    let lefts = rows (from_input 0 p) in
+    let rights = rows (from_input 1 p) in
+    omega (
+      arith,
+      left,
+      right,
+      filter_fewer (λ (row : Event). nat_lt (bound (from_input 1 p)) row.end) (alone rights lefts),
+      filter_fewer (is_alone rights) lefts,
+      filter_fewer (λ (row : Event). nat_lt (bound (from_input 0 p)) row.end) rights,
     )
 
 pub entries_are_few : EntryLaws → VerticesByNumber → EntriesAreFew

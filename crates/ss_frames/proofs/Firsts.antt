@@ -7,7 +7,7 @@ use Rattle.ss_codec.specs.declared.frame.Frame.{Frame}
 use Rattle.ss_expr.specs.Operators.{operator_of}
 use Rattle.ss_expr.specs.declared.stream_operator.Spec.{Spec}
 use Rattle.ss_expr.specs.declared.stream_operator.Spec.TheVariants as spec
-use Rattle.ss_image.specs.Images.{window_image, join_image, image_of}
+use Rattle.ss_image.specs.Images.{window_image, join_image, session_image, image_of}
 use Rattle.ss_image.specs.Numbers.{number_bytes}
 use Rattle.ss_meaning.specs.Entries.{entries_after}
 use Rattle.ss_meaning.specs.Inputs.{bounds, counts}
@@ -33,11 +33,13 @@ padded_zeros n h =
     ∙ ap (λ m. replicate m 0) whole
 
 image_is : (operator : Spec) (inputs : ℕ) → image_of (entries_after (operator_of operator) inputs []) ≡ first_image operator
-unfolding window_image join_image number_bytes
+unfolding window_image join_image session_image number_bytes
 image_is (spec.Select test a b c d) inputs = refl
 image_is spec.Union inputs = refl
 image_is (spec.Window size hop agg of) inputs = refl
 image_is spec.Join inputs = refl
+image_is (spec.Session gap agg of) inputs = refl
+image_is spec.Except inputs = refl
 
 first_is : (v : ℕ) (operator : Spec) (inputs : ℕ) → inputs ≤ 8 → frame_after v operator inputs [] ≡ first_frame v operator inputs
 unfolding frame_after

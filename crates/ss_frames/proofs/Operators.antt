@@ -37,6 +37,8 @@ few_inputs (spec.Select test a b c d) n h = let least = h.least_of in let most =
 few_inputs spec.Union n h = let least = h.least_of in let most = h.most_of in (omega (arith, least), omega (arith, most))
 few_inputs (spec.Window size hop agg of) n h = let least = h.least_of in let most = h.most_of in (omega (arith, least), omega (arith, most))
 few_inputs spec.Join n h = let least = h.least_of in let most = h.most_of in (omega (arith, least), omega (arith, most))
+few_inputs (spec.Session gap agg of) n h = let least = h.least_of in let most = h.most_of in (omega (arith, least), omega (arith, most))
+few_inputs spec.Except n h = let least = h.least_of in let most = h.most_of in (omega (arith, least), omega (arith, most))
 
 by_text : VerticesByNumber → (plan : PlanText) → IsPlan plan → (v : ℕ) → v < length plan.job.graph → (st : Stands plan v) (text : VertexText) (operator : Spec)
     → st.text ≡ text → spec_of_vertex text ≡ Some operator → IsOperatorAt plan v operator

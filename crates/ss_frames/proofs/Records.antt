@@ -2,12 +2,12 @@
 use Rattle.std.proofs.Common.{◌≡◌, ℕ, zero, suc, ◌+◌, ◌-◌, ◌^◌, ◌<◌, ◌≤◌, Bool, true, false, cond, ℤ, pos, negsuc, List, [], ◌∷◌, ◌++◌, length, get_or, map, filter, Option, Some, None, IsSome, All, FitsSigned, refl, sym, ap, ◌∙◌, subst, arith}
 use Rattle.std.specs.Prelude.{nat_lt, nat_le, ◌&&◌, ◌==◌}
 use Rattle.std.specs.Int.{w64}
-use Rattle.std.specs.List.{AllByRecursion, flat_map, slice_get}
+use Rattle.std.specs.List.{AllByRecursion, Contains, flat_map, slice_get}
 use Rattle.std.specs.Option.{option_and_then}
 use Rattle.std.proofs.lemmas.Bool.{and_parts, and_from, ltb-true, lt-ltb, le-leb}
 use Rattle.std.proofs.lemmas.Int.{ints}
 use Rattle.std.proofs.lemmas.List.{length-append, length-map}
-use Rattle.std.proofs.lemmas.List.Elements.{recursion_from_All, All-from_recursion}
+use Rattle.std.proofs.lemmas.List.Elements.{recursion_from_All, All-from_recursion, All-contains}
 use Rattle.ss_codec.specs.Record.{HasRecord}
 use Rattle.ss_elem.specs.Key.{IsKeyNumber}
 use Rattle.ss_elem.specs.Rows.{IsKept}
@@ -20,6 +20,10 @@ use Rattle.ss_expr.specs.declared.stream_operator.Spec.{Spec}
 use Rattle.ss_expr.specs.declared.stream_operator.Spec.TheVariants as spec
 use Rattle.ss_job.specs.JobText.{VertexText, source, inner, sink, spec_of, spec_of_vertex}
 use Rattle.ss_meaning.specs.Bound.{row_of, rows}
+use Rattle.ss_meaning.specs.Except.{absent_row, is_alone, alone, ends_between, ending_between, left_alone}
+use Rattle.ss_meaning.specs.Session.{SessionWindow, SessionEntry, sessions, closing, closings, closed, session_row, session_rows}
+use Rattle.ss_meaning.specs.SessionRows.{IsOfRows, SessionsAreOfRows}
+use Rattle.ss_meaning.specs.Bound.{bound}
 use Rattle.ss_meaning.specs.Emit.{revalued, rows_at, emit, given_along}
 use Rattle.ss_meaning.specs.Jobs.{IsBefore, IsJob, MayStand}
 use Rattle.ss_meaning.specs.Join.{matches, joined, joined_from, join_rows}
@@ -185,6 +189,60 @@ joined_kept input x y h k = by_test (input == 0)
     by_test true = record { is_key = h.0.is_key; a = h.0.a; b = k.0.a; c = h.0.c; d = k.0.c }
     by_test false = record { is_key = k.0.is_key; a = k.0.a; b = h.0.a; c = k.0.c; d = h.0.c }
 
+-- a session begins and ends where rows start
+session_kept : SessionsAreOfRows → (window : SessionWindow) (seen : List Event) (before after : ℕ) → length seen < 2 ^ 63 → AllByRecursion (IsRow IsTaken) seen
+    → AllByRecursion (IsRow IsKept) (session_rows window seen before after)
+session_kept law window seen before after few h =
+    let all = sessions window seen in
+    each_map (IsOfRows seen) (IsRow IsKept) (session_row window.gap) row_kept (closed window.gap all before after)
+    (each_flat (λ (time : ℕ). Unit {0}) (IsOfRows seen) (λ time. filter (λ (s : SessionEntry). closing window.gap s == time) all)
+    (λ time k. each_filter (IsOfRows seen) (λ (s : SessionEntry). closing window.gap s == time) all (recursion_from_All (IsOfRows seen) all (law window seen)))
+    (closings window.gap all before after) (any_of (closings window.gap all before after)))
+  where
+    taken : (row : Event) → Contains seen row → IsRow IsTaken row
+    taken row within = All-contains (IsRow IsTaken) seen row (All-from_recursion (IsRow IsTaken) seen h) within
+
+    row_kept : (s : SessionEntry) → IsOfRows seen s → IsRow IsKept (session_row window.gap s)
+    row_kept s is =
+        let first = taken is.begins.0 is.begins.1 in
+        let last = taken is.ends.0 is.ends.1 in
+        let short = is.few in
+        record {
+          is_key = subst IsKeyNumber is.begins.2 first.0.is_key;
+          a = bits_fit s.value;
+          b = count_fits s.rows (omega (arith, short, few));
+          c = count_fits s.first (let early = first.1.0 in omega (arith, early, is.begins.3));
+          d = count_fits s.last (let early = last.1.0 in omega (arith, early, is.ends.2));
+        }
+
+-- a left row that is alone is a left row
+absent_kept : (row : Event) → IsRow IsTaken row → IsRow IsKept (absent_row row)
+absent_kept row h =
+    let early = h.1.0 in
+    record { is_key = h.0.is_key; a = h.0.a; b = h.0.b; c = count_fits row.start (omega (arith, early)); d = zero_fits }
+
+left_kept : (p : List Arrival) (x : Arrival) → AllByRecursion (ArrivesAs IsTaken) p → IsTaken x.element → AllByRecursion (IsRow IsTaken) (left_alone p x)
+left_kept p x h k = by_input (x.input == 0)
+  where
+    rights : List Event
+    rights = rows (from_input 1 p)
+
+    reached : ℕ
+    reached = bound (from_input 1 p)
+
+    lefts : List Event
+    lefts = alone rights (rows (from_input 0 p))
+
+    lefts_taken : AllByRecursion (IsRow IsTaken) lefts
+    lefts_taken = each_filter (IsRow IsTaken) (is_alone rights) (rows (from_input 0 p)) (each_row IsTaken (from_input 0 p) (each_from IsTaken 0 p h))
+
+    by_input : (b : Bool) → AllByRecursion (IsRow IsTaken) (cond b (filter (λ row. nat_le row.end reached && is_alone rights row) (row_of x.element)) (ending_between lefts reached (bound (from_input 1 (p ++ x ∷ [])))))
+    by_input true = each_filter (IsRow IsTaken) (λ row. nat_le row.end reached && is_alone rights row) (row_of x.element) (rows_of_one IsTaken x.element k)
+    by_input false =
+        let times = ends_between lefts reached (bound (from_input 1 (p ++ x ∷ []))) in
+        each_flat (λ (time : ℕ). Unit {0}) (IsRow IsTaken) (λ time. filter (λ (row : Event). row.end == time) lefts)
+        (λ time u. each_filter (IsRow IsTaken) (λ (row : Event). row.end == time) lefts lefts_taken) times (any_of times)
+
 short_row : (row : Event) → IsRow IsTaken row → IsShortRow row
 short_row row h = record { times = h.1; a = h.0.a; b = h.0.b; c = h.0.c; d = h.0.d }
 
@@ -197,9 +255,9 @@ arrived_fewer input p =
       filter_fewer (is_from input) p,
     )
 
-rows_kept : (operator : Spec) → IsSpecOfProgram operator → (inputs : ℕ) (p : List Arrival) (x : Arrival) → length p < 2 ^ 63
+rows_kept : SessionsAreOfRows → (operator : Spec) → IsSpecOfProgram operator → (inputs : ℕ) (p : List Arrival) (x : Arrival) → length p < 2 ^ 63
     → AllByRecursion (ArrivesAs IsTaken) p → IsTaken x.element → AllByRecursion (IsRow IsKept) (rows_at (operator_of operator) inputs p x)
-rows_kept (spec.Select test a b c d) of inputs p x few h k =
+rows_kept law (spec.Select test a b c d) of inputs p x few h k =
     let select = selection_of test a b c d in
     each_map (IsRow IsTaken) (IsRow IsKept) (revalued select)
     (λ row e. record {
@@ -210,12 +268,12 @@ rows_kept (spec.Select test a b c d) of inputs p x few h k =
       d = computed_fits d row of.3 (short_row row e);
     })
     (filter select.test (row_of x.element)) (each_filter (IsRow IsTaken) select.test (row_of x.element) (rows_of_one IsTaken x.element k))
-rows_kept spec.Union of inputs p x few h k = rows_of_one IsKept x.element k.0
-rows_kept (spec.Window size hop agg field) of inputs p x few h k =
+rows_kept law spec.Union of inputs p x few h k = rows_of_one IsKept x.element k.0
+rows_kept law (spec.Window size hop agg field) of inputs p x few h k =
     window_kept (record { size = size; hop = hop; aggregate = aggregate_of agg; field = field_of field }) (rows (from_input 0 p))
     (low inputs p) (low inputs (p ++ x ∷ [])) (omega (arith, few, arrived_fewer 0 p))
     (each_row IsTaken (from_input 0 p) (each_from IsTaken 0 p h))
-rows_kept spec.Join of inputs p x few h k =
+rows_kept law spec.Join of inputs p x few h k =
     let earlier = rows (from_input (1 - x.input) p) in
     each_flat (IsRow IsTaken) (IsRow IsKept) (λ row. join_rows x.input row earlier)
     (λ row e.
@@ -223,6 +281,13 @@ rows_kept spec.Join of inputs p x few h k =
     (each_filter (IsRow IsTaken) (matches row) earlier
     (each_row IsTaken (from_input (1 - x.input) p) (each_from IsTaken (1 - x.input) p h))))
     (row_of x.element) (rows_of_one IsTaken x.element k)
+
+rows_kept law (spec.Session gap agg field) of inputs p x few h k =
+    session_kept law (record { gap = gap; aggregate = aggregate_of agg; field = field_of field }) (rows (from_input 0 p))
+    (low inputs p) (low inputs (p ++ x ∷ [])) (omega (arith, few, arrived_fewer 0 p))
+    (each_row IsTaken (from_input 0 p) (each_from IsTaken 0 p h))
+rows_kept law spec.Except of inputs p x few h k =
+    each_map (IsRow IsTaken) (IsRow IsKept) absent_row absent_kept (left_alone p x) (left_kept p x h k)
 
 advance_kept : (before after : ℕ) → AllByRecursion IsKept (advance before after)
 advance_kept before after = by_tests (nat_lt before after) (nat_lt after top)
@@ -232,21 +297,21 @@ advance_kept before after = by_tests (nat_lt before after) (nat_lt after top)
     by_tests true false = (tt, tt)
     by_tests false early = tt
 
-given_kept : (operator : Spec) → IsSpecOfProgram operator → (inputs : ℕ) (xs p : List Arrival) → length p + length xs < 2 ^ 63
+given_kept : SessionsAreOfRows → (operator : Spec) → IsSpecOfProgram operator → (inputs : ℕ) (xs p : List Arrival) → length p + length xs < 2 ^ 63
     → AllByRecursion (ArrivesAs IsTaken) p → AllByRecursion (ArrivesAs IsTaken) xs
     → AllByRecursion IsKept (given_along (emit (operator_of operator) inputs) p xs)
-given_kept operator of inputs [] p few h k = tt
-given_kept operator of inputs (x ∷ xs) p few h k =
+given_kept law operator of inputs [] p few h k = tt
+given_kept law operator of inputs (x ∷ xs) p few h k =
     let kind = operator_of operator in
     let after = p ++ x ∷ [] in
     let rows_given = rows_at kind inputs p x in
     let here : AllByRecursion IsKept (emit kind inputs p x) =
     each_append IsKept (map (λ (row : Event). Row row) rows_given) (advance (low inputs p) (low inputs after))
     (each_map (IsRow IsKept) IsKept (λ (row : Event). Row row) (λ row e. e) rows_given
-    (rows_kept operator of inputs p x (omega (arith, few)) h k.0))
+    (rows_kept law operator of inputs p x (omega (arith, few)) h k.0))
     (advance_kept (low inputs p) (low inputs after)) in
     each_append IsKept (emit kind inputs p x) (given_along (emit kind inputs) after xs) here
-    (given_kept operator of inputs xs after (omega (arith, few, length-append p (x ∷ [])))
+    (given_kept law operator of inputs xs after (omega (arith, few, length-append p (x ∷ [])))
     (each_append (ArrivesAs IsTaken) p (x ∷ []) h (k.0, tt)) k.1)
 
 -- ---- a whole list has elements that may stand first
@@ -309,6 +374,7 @@ AreKeptBelow plan v = (u : ℕ) → u < v → AllByRecursion IsKept (meaning (ve
 pub record RecordLaws : Type 0 where
   pub job : JobLaws
   pub made : MeaningByInputs
+  pub sessions : SessionsAreOfRows
 
 taken_lists : MeaningIsWhole → (plan : PlanText) → IsJob (vertices_of plan) → (v : ℕ) → v < length (vertices_of plan) → AreKeptBelow plan v → (names : List ℕ)
     → AllByRecursion (λ u. u < v) names → AllByRecursion (AllByRecursion IsTaken) (map (meaning (vertices_of plan)) names)
@@ -342,7 +408,7 @@ by_text laws plan is of few v h kept node (inner s policy) text_is e =
     let short : length (merge lists) < 2 ^ 63 = omega (arith, few v, mlen_is plan v s o, ap length (merged_is plan v s o)) in
     let made : meaning job v ≡ given_along (emit (operator_of s) (length o.names)) [] (merge lists) =
     laws.made job job_is v h ∙ ap (λ (x : Vertex). stream x (map (meaning job) (reads x))) o.vertex in
-    subst (AllByRecursion IsKept) (sym made) (given_kept s (of.specs v s said) (length o.names) (merge lists) [] (omega (arith, short)) tt arrive)
+    subst (AllByRecursion IsKept) (sym made) (given_kept laws.sessions s (of.specs v s said) (length o.names) (merge lists) [] (omega (arith, short)) tt arrive)
 by_text laws plan is of few v h kept node (sink file) text_is e =
     let job = vertices_of plan in
     let job_is = laws.job.means plan is.job is.lists in

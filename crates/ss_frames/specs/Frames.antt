@@ -20,6 +20,8 @@ op_number (spec.Select test a b c d) = 1
 op_number spec.Union = 2
 op_number (spec.Window size hop agg of) = 3
 op_number spec.Join = 4
+op_number (spec.Session gap agg of) = 5
+op_number spec.Except = 6
 
 -- a number for each input, and zeros up to eight
 abbrev pub padded : List ℕ → List ℕ

@@ -35,6 +35,8 @@ IsSpecOfProgram (spec.Select test a b c d) =
 IsSpecOfProgram spec.Union = Unit {0}
 IsSpecOfProgram (spec.Window size hop agg of) = Unit {0}
 IsSpecOfProgram spec.Join = Unit {0}
+IsSpecOfProgram (spec.Session gap agg of) = Unit {0}
+IsSpecOfProgram spec.Except = Unit {0}
 
 -- what the lists and the job of the program's plan keep by their types
 pub record IsOfProgram (plan : PlanText) : Type 0 where

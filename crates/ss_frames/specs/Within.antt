@@ -2,7 +2,7 @@
 use Rattle.std.specs.Prelude.{◌≡◌, ℕ, ◌+◌, ◌^◌, ◌<◌, ◌≤◌, length, All}
 use Rattle.ss_elem.specs.Rows.{IsKept}
 use Rattle.ss_codec.specs.declared.frame.Frame.{Frame}
-use Rattle.ss_meaning.specs.Entries.{Entries, NoEntries, WindowEntries, JoinRows, entries_after}
+use Rattle.ss_meaning.specs.Entries.{Entries, NoEntries, WindowEntries, JoinRows, SessionEntries, entries_after}
 use Rattle.ss_meaning.specs.Positions.{mlen, pos, positions, out}
 use Rattle.ss_expr.specs.Operators.{operator_of}
 use Rattle.ss_expr.specs.declared.stream_operator.Spec.{Spec}
@@ -19,11 +19,12 @@ pub record IsWithin (plan : PlanText) (v n : ℕ) : Type 0 where
 abbrev pub AreKept : PlanText → ℕ → ℕ → Type 0
 AreKept plan v n = All (λ x. IsKept x.element) (accepted plan v n)
 
--- fewer than 2^25 entries, and of a window none that counts 2^62 rows
+-- fewer than 2^25 entries, and of a window or a session none that counts 2^62 rows
 abbrev pub AreFew : Entries → Type 0
 AreFew NoEntries = Unit {0}
 AreFew (WindowEntries entries) = (length entries < 2 ^ 25) × All (λ e. e.rows < 2 ^ 62) entries
 AreFew (JoinRows left right) = length left + length right < 2 ^ 25
+AreFew (SessionEntries entries) = (length entries < 2 ^ 25) × All (λ e. e.rows < 2 ^ 62) entries
 
 -- what vertex v with this operator remembers after its first n elements
 abbrev pub entries_at : PlanText → ℕ → ℕ → Spec → Entries

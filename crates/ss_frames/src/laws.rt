@@ -6,7 +6,7 @@ use ss_codec::frames_have_lengths;
 use ss_image::images_have_lengths;
 use ss_meaning::{
     entries_are_in_order, entries_follow, meaning_is_made_of_the_inputs, meaning_is_whole,
-    merge_keeps_each_input,
+    merge_keeps_each_input, sessions_are_of_rows, sessions_follow,
 };
 use ss_plan::{plans_mean_jobs, vertices_by_number};
 use ss_state::{numbers_are_meant, runnable_has_numbers};
@@ -50,6 +50,8 @@ pub fn entries_are_few()
     vertices_by_number();
     entries_follow();
     entries_are_in_order();
+    sessions_follow();
+    sessions_are_of_rows();
 }
 
 /// A snapshot has the numbers of the meaning, and within the job's limit a code.
@@ -75,4 +77,5 @@ pub fn elements_have_records()
     meaning_is_whole();
     merge_keeps_each_input();
     meaning_is_made_of_the_inputs();
+    sessions_are_of_rows();
 }

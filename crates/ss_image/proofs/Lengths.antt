@@ -8,10 +8,11 @@ use Rattle.byteorder.specs.Numbers.{length-bytes_high_first}
 use Rattle.ss_elem.specs.Key.{is_not_zero, key_text}
 use Rattle.ss_elem.specs.declared.element.Event.{Event}
 use Rattle.ss_meaning.specs.Entries.{WindowEntry}
+use Rattle.ss_meaning.specs.Session.{SessionEntry}
 use Rattle.ss_image.specs.declared.row_form.RowForm.{RowForm}
 use Rattle.ss_image.specs.declared.row_form.RowForm.TheVariants.{Narrow, Wide}
-use Rattle.ss_image.specs.Images.{entry_bytes, narrow_bytes, wide_bytes, row_bytes, row_len, form_of, image_in, window_image, join_image}
-use Rattle.ss_image.specs.Laws.{WindowImagesHaveLengths, JoinImagesHaveLengths, JoinImagesAreShort}
+use Rattle.ss_image.specs.Images.{entry_bytes, session_bytes, narrow_bytes, wide_bytes, row_bytes, row_len, form_of, image_in, window_image, session_image, join_image}
+use Rattle.ss_image.specs.Laws.{WindowImagesHaveLengths, SessionImagesHaveLengths, JoinImagesHaveLengths, JoinImagesAreShort}
 use Rattle.ss_image.specs.Numbers.{number_bytes, key_bytes}
 
 pub length-number_bytes : (len n : ℕ) → length (number_bytes len n) ≡ len
@@ -40,6 +41,27 @@ length-entry_bytes e =
       length-key_bytes e.key,
       length-number_bytes 16 (cast_unsigned w128 e.value),
       length-number_bytes 8 e.rows,
+    )
+
+length-session_bytes : (s : SessionEntry) → length (session_bytes s) ≡ 56
+unfolding session_bytes
+length-session_bytes s =
+    let k = key_bytes s.key in
+    let f = number_bytes 8 s.first in
+    let l = number_bytes 8 s.last in
+    let v = number_bytes 16 (cast_unsigned w128 s.value) in
+    let r = number_bytes 8 s.rows in
+    omega (
+      arith,
+      length-append (k ++ f ++ l ++ v) r,
+      length-append (k ++ f ++ l) v,
+      length-append (k ++ f) l,
+      length-append k f,
+      length-key_bytes s.key,
+      length-number_bytes 8 s.first,
+      length-number_bytes 8 s.last,
+      length-number_bytes 16 (cast_unsigned w128 s.value),
+      length-number_bytes 8 s.rows,
     )
 
 length-narrow_bytes : (row : Event) → length (narrow_bytes row) ≡ 48
@@ -94,6 +116,16 @@ window_lengths entries =
       length-append (number_bytes 4 (length entries)) (flat_map entry_bytes entries),
       length-number_bytes 4 (length entries),
       length-pieces entry_bytes 48 length-entry_bytes entries,
+    )
+
+pub session_lengths : SessionImagesHaveLengths
+unfolding session_image
+session_lengths entries =
+    omega (
+      arith,
+      length-append (number_bytes 4 (length entries)) (flat_map session_bytes entries),
+      length-number_bytes 4 (length entries),
+      length-pieces session_bytes 56 length-session_bytes entries,
     )
 
 length-image_in : (form : RowForm) (left right : List Event) → length (image_in form left right) ≡ 8 + (row_len form * length left + row_len form * length right)

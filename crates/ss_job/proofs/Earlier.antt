@@ -38,19 +38,21 @@ is_sink_op _ = false
 abbrev pub op_or : Option (List ℕ) → Operator
 op_or word = unwrap_or (option_and_then op_named word) op.Source
 
-no_sink_word : (a b c d e : Bool) → is_sink_op (unwrap_or (cond a (Some op.Source) (cond b (Some op.Select) (cond c (Some op.Union) (cond d (Some op.Window) (cond e (Some op.Join) None))))) op.Source) ≡ false
-no_sink_word true b c d e = refl
-no_sink_word false true c d e = refl
-no_sink_word false false true d e = refl
-no_sink_word false false false true e = refl
-no_sink_word false false false false true = refl
-no_sink_word false false false false false = refl
+no_sink_word : (a b c d e f g : Bool) → is_sink_op (unwrap_or (cond a (Some op.Source) (cond b (Some op.Select) (cond c (Some op.Union) (cond d (Some op.Window) (cond e (Some op.Join) (cond f (Some op.Session) (cond g (Some op.Except) None))))))) op.Source) ≡ false
+no_sink_word true b c d e f g = refl
+no_sink_word false true c d e f g = refl
+no_sink_word false false true d e f g = refl
+no_sink_word false false false true e f g = refl
+no_sink_word false false false false true f g = refl
+no_sink_word false false false false false true g = refl
+no_sink_word false false false false false false true = refl
+no_sink_word false false false false false false false = refl
 
 sink_of_word : (word : List ℕ) → bytes_eq word (codes "sink") ≡ is_sink_op (op_or (Some word))
 sink_of_word word =
     elim (cases_Bool (bytes_eq word (codes "sink"))) [
       | inl same ↦ let e : word ≡ codes "sink" = (bytes_eq-Decides word (codes "sink")).0 same in rw e
-      | inr other ↦ rw (other, no_sink_word (bytes_eq word (codes "source")) (bytes_eq word (codes "select")) (bytes_eq word (codes "union")) (bytes_eq word (codes "window")) (bytes_eq word (codes "join")))
+      | inr other ↦ rw (other, no_sink_word (bytes_eq word (codes "source")) (bytes_eq word (codes "select")) (bytes_eq word (codes "union")) (bytes_eq word (codes "window")) (bytes_eq word (codes "join")) (bytes_eq word (codes "session")) (bytes_eq word (codes "except")))
     ]
 
 sink_of_words : (word : Option (List ℕ)) → option_map_or (λ word. bytes_eq word (codes "sink")) word false ≡ is_sink_op (op_or word)
@@ -67,6 +69,8 @@ kind_is_sink op.Select = refl
 kind_is_sink op.Union = refl
 kind_is_sink op.Window = refl
 kind_is_sink op.Join = refl
+kind_is_sink op.Session = refl
+kind_is_sink op.Except = refl
 kind_is_sink op.Sink = refl
 
 pub kind-is_sink : (t : Members) → graph.is_sink (kind_of (op_or_source t)) ≡ is_sink t
@@ -103,6 +107,8 @@ file_of_sink op.Select t file = refl
 file_of_sink op.Union t file = refl
 file_of_sink op.Window t file = refl
 file_of_sink op.Join t file = refl
+file_of_sink op.Session t file = refl
+file_of_sink op.Except t file = refl
 file_of_sink op.Sink t file = refl
 
 one_file : (file other : List ℕ) (files : List (List ℕ)) (sink : Bool) → ((sink && bytes_eq file other) || is_among file files) ≡ is_among file (cond sink (other ∷ files) files)

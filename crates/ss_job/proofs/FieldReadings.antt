@@ -21,7 +21,7 @@ use Rattle.ss_job.specs.Wrong.{fault_if, range_faults, is_within, is_multiple, o
 use Rattle.ss_job.specs.declared.fault.JobWhy.{JobWhy}
 use Rattle.ss_job.specs.declared.fault.JobWhy.TheVariants.{BadWord}
 use Rattle.ss_job.specs.declared.field_name.FieldName.{FieldName}
-use Rattle.ss_job.specs.declared.field_name.FieldName.TheVariants.{Late, Where, A, B, C, D, Size, Hop, Agg, Of, Recover, Every, Replicas}
+use Rattle.ss_job.specs.declared.field_name.FieldName.TheVariants.{Late, Where, A, B, C, D, Size, Hop, Gap, Agg, Of, Recover, Every, Replicas}
 use Rattle.ss_job.specs.declared.op.Op.{Op}
 use Rattle.ss_job.proofs.Readings.{Reads, done, found, made}
 
@@ -123,6 +123,10 @@ module _ (op : Op) (earlier : List Members) (t : Members) where
   pub hop_reads : Reads (needed_number Hop 1 (2 ^ 40) t) (field_faults (value_faults Hop op earlier t) t (has Hop number)) (number_in Hop 0 t)
   unfolding needed_number needed_integer
   hop_reads = needed_integer_reads Hop (value_faults Hop op earlier t) (in_range Hop 1 (2 ^ 40)) (λ got. option_map_or magnitude got 0) (in_range_reads Hop 1 (2 ^ 40)) (get_member (key_of Hop) t)
+
+  pub gap_reads : Reads (needed_number Gap 1 (2 ^ 40) t) (field_faults (value_faults Gap op earlier t) t (has Gap number)) (number_in Gap 0 t)
+  unfolding needed_number needed_integer
+  gap_reads = needed_integer_reads Gap (value_faults Gap op earlier t) (in_range Gap 1 (2 ^ 40)) (λ got. option_map_or magnitude got 0) (in_range_reads Gap 1 (2 ^ 40)) (get_member (key_of Gap) t)
 
   pub size_reads : Reads (size_of (number_in Hop 0 t) t) (field_faults (value_faults Size op earlier t) t (has Size number)) (number_in Size 0 t)
   unfolding size_of needed_integer

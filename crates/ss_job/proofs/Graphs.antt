@@ -74,6 +74,8 @@ source_op op.Select e = absurd (cc)
 source_op op.Union e = absurd (cc)
 source_op op.Window e = absurd (cc)
 source_op op.Join e = absurd (cc)
+source_op op.Session e = absurd (cc)
+source_op op.Except e = absurd (cc)
 source_op op.Sink e = absurd (cc)
 
 linked_at : (earlier : List Members) (t : Members) (later : List Members) → vertex_faults earlier t ≡ [] → IsLinkedAt (nodes_in (earlier ++ (t ∷ later))) (length earlier) (node_in earlier t)

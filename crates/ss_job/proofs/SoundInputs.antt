@@ -75,6 +75,8 @@ op_inputs op.Select earlier t only sound = read_inputs op.Select earlier t (drop
 op_inputs op.Union earlier t only sound = read_inputs op.Union earlier t (drop 1 (fields_of op.Union)) sound
 op_inputs op.Window earlier t only sound = read_inputs op.Window earlier t (drop 1 (fields_of op.Window)) sound
 op_inputs op.Join earlier t only sound = read_inputs op.Join earlier t (drop 1 (fields_of op.Join)) sound
+op_inputs op.Session earlier t only sound = read_inputs op.Session earlier t (drop 1 (fields_of op.Session)) sound
+op_inputs op.Except earlier t only sound = read_inputs op.Except earlier t (drop 1 (fields_of op.Except)) sound
 op_inputs op.Sink earlier t only sound = read_inputs op.Sink earlier t (drop 1 (fields_of op.Sink)) sound
 
 pub sound_inputs : (earlier : List Members) (t : Members) → SoundVertex earlier t → SoundInputs earlier t
@@ -113,6 +115,8 @@ most_inputs-few op.Select = omega arith
 most_inputs-few op.Union = omega arith
 most_inputs-few op.Window = omega arith
 most_inputs-few op.Join = omega arith
+most_inputs-few op.Session = omega arith
+most_inputs-few op.Except = omega arith
 most_inputs-few op.Sink = omega arith
 
 pub inputs-few : (o : Op) (count : ℕ) → has_input_count o count ≡ true → count ≤ most_inputs o

@@ -12,7 +12,7 @@ use Rattle.ss_fail.specs.declared.role.Role.{Role}
 use Rattle.ss_job.specs.Document.{has_only}
 use Rattle.ss_job.specs.Faults.{fault_of_vertex, fault_of_document, item_count, vertex_faults, limit_value_faults, limit_faults, limits_faults, array_faults, vertices_faults, unread_faults, graph_faults, faults, job_of}
 use Rattle.ss_job.specs.Format.{key_of, has, may_have, text, number, fields_of, vertex_keys, document_keys, keys_of, limit_fields, fewest_inputs, most_inputs}
-use Rattle.ss_job.specs.JobIn.{op_or_source, policy_in, select_in, window_in, vertex_in, vertex_with, role_in, node_in, nodes_after, nodes_in, inputs_in, tables_in, limits_in, job_in}
+use Rattle.ss_job.specs.JobIn.{op_or_source, policy_in, select_in, window_in, session_in, vertex_in, vertex_with, role_in, node_in, nodes_after, nodes_in, inputs_in, tables_in, limits_in, job_in}
 use Rattle.ss_job.specs.JobText.{VertexText, JobText, op_of_vertex}
 use Rattle.ss_job.specs.Lookup.{number_in, texts_in, tree_of_text}
 use Rattle.ss_job.specs.Reading.{faulty, parts_of, drafts_after, sound_graph, job_with, read_document}
@@ -21,7 +21,7 @@ use Rattle.ss_job.specs.declared.limits.Limits.{Limits}
 use Rattle.ss_job.specs.Sound.{IsFrom, IsPolicy, IsWindow, IsSpec, IsVertexText, HasReplicas, IsVertex, IsJob}
 use Rattle.ss_job.specs.Wrong.{fault_if, is_sink, number_of, has_input_count, field_faults, unknown_faults, value_faults}
 use Rattle.ss_job.specs.declared.fault.JobWhy.TheVariants.{NoSink}
-use Rattle.ss_job.specs.declared.field_name.FieldName.TheVariants.{Job, Vertex, MaxElements, CollectEvery, Inputs, Where, A, B, C, D, Size, Hop, Every, Replicas}
+use Rattle.ss_job.specs.declared.field_name.FieldName.TheVariants.{Job, Vertex, MaxElements, CollectEvery, Inputs, Where, A, B, C, D, Size, Hop, Gap, Every, Replicas}
 use Rattle.ss_job.specs.declared.op.Op.{Op}
 use Rattle.ss_job.specs.declared.op.Op.TheVariants as op
 use Rattle.ss_water.specs.declared.node.Node.{Node}
@@ -61,12 +61,18 @@ window_sound earlier t sound =
     let hop = needed_number_sound (IsFrom 1 (2 ^ 40)) Hop (value_faults Hop op.Window earlier t) (range_sound Hop 1 (2 ^ 40)) (get_member (key_of Hop) t) 0 (wrong_at op.Window earlier t (fields_of op.Window) 1 (has Hop number) refl sound) in
     needed_number_sound (λ size. IsWindow size (number_in Hop 0 t)) Size (value_faults Size op.Window earlier t) (λ got none. size_from (number_in Hop 0 t) got hop none) (get_member (key_of Size) t) 0 (wrong_at op.Window earlier t (fields_of op.Window) 2 (has Size number) refl sound)
 
+session_sound : (earlier : List Members) (t : Members) → wrong_in op.Session earlier t (fields_of op.Session) ≡ [] → IsSpec (session_in t)
+session_sound earlier t sound =
+    needed_number_sound (IsFrom 1 (2 ^ 40)) Gap (value_faults Gap op.Session earlier t) (range_sound Gap 1 (2 ^ 40)) (get_member (key_of Gap) t) 0 (wrong_at op.Session earlier t (fields_of op.Session) 1 (has Gap number) refl sound)
+
 vertex_text_sound : (o : Op) (earlier : List Members) (t : Members) → wrong_in o earlier t (fields_of o) ≡ [] → IsVertexText (vertex_with o t)
 vertex_text_sound op.Source earlier t sound = sound_source_file earlier t sound
 vertex_text_sound op.Select earlier t sound = (select_sound earlier t sound, policy_sound op.Select earlier t sound 7 8 refl refl)
 vertex_text_sound op.Union earlier t sound = (tt, policy_sound op.Union earlier t sound 2 3 refl refl)
 vertex_text_sound op.Window earlier t sound = (window_sound earlier t sound, policy_sound op.Window earlier t sound 6 7 refl refl)
 vertex_text_sound op.Join earlier t sound = (tt, policy_sound op.Join earlier t sound 2 3 refl refl)
+vertex_text_sound op.Session earlier t sound = (session_sound earlier t sound, policy_sound op.Session earlier t sound 5 6 refl refl)
+vertex_text_sound op.Except earlier t sound = (tt, policy_sound op.Except earlier t sound 2 3 refl refl)
 vertex_text_sound op.Sink earlier t sound = (sound_sink_file earlier t sound).legal
 
 role_replicas : (o : Op) (earlier : List Members) (t : Members) → has_only (vertex_keys o) t ≡ true → wrong_in o earlier t (fields_of o) ≡ [] → IsFrom 1 4 (number_in Replicas 1 t)
@@ -75,6 +81,8 @@ role_replicas op.Select earlier t only sound = replicas_sound op.Select earlier 
 role_replicas op.Union earlier t only sound = replicas_sound op.Union earlier t sound 3 refl
 role_replicas op.Window earlier t only sound = replicas_sound op.Window earlier t sound 7 refl
 role_replicas op.Join earlier t only sound = replicas_sound op.Join earlier t sound 3 refl
+role_replicas op.Session earlier t only sound = replicas_sound op.Session earlier t sound 6 refl
+role_replicas op.Except earlier t only sound = replicas_sound op.Except earlier t sound 3 refl
 role_replicas op.Sink earlier t only sound = rw (get_member-absent (key_of Replicas) (vertex_keys op.Sink) t only refl) (record { least_of = omega arith; most_of = omega arith })
 
 own_replicas : (o : Op) (earlier : List Members) (t : Members) → has_only (vertex_keys o) t ≡ true → wrong_in o earlier t (fields_of o) ≡ [] → HasReplicas (vertex_with o t) (number_in Replicas 1 t)
@@ -83,6 +91,8 @@ own_replicas op.Select earlier t only sound = refl
 own_replicas op.Union earlier t only sound = refl
 own_replicas op.Window earlier t only sound = refl
 own_replicas op.Join earlier t only sound = refl
+own_replicas op.Session earlier t only sound = refl
+own_replicas op.Except earlier t only sound = refl
 own_replicas op.Sink earlier t only sound = rw (get_member-absent (key_of Replicas) (vertex_keys op.Sink) t only refl) refl
 
 -- ---- a vertex
@@ -93,6 +103,8 @@ op_of-vertex_with op.Select t = refl
 op_of-vertex_with op.Union t = refl
 op_of-vertex_with op.Window t = refl
 op_of-vertex_with op.Join t = refl
+op_of-vertex_with op.Session t = refl
+op_of-vertex_with op.Except t = refl
 op_of-vertex_with op.Sink t = refl
 
 count_from : (o : Op) (count : ℕ) → has_input_count o count ≡ true → IsFrom (fewest_inputs o) (most_inputs o) count

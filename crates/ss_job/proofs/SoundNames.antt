@@ -106,6 +106,8 @@ is_sink_op-Sink op.Select e = absurd (false≢true e)
 is_sink_op-Sink op.Union e = absurd (false≢true e)
 is_sink_op-Sink op.Window e = absurd (false≢true e)
 is_sink_op-Sink op.Join e = absurd (false≢true e)
+is_sink_op-Sink op.Session e = absurd (false≢true e)
+is_sink_op-Sink op.Except e = absurd (false≢true e)
 is_sink_op-Sink op.Sink e = refl
 
 -- the files of the sinks with one table more
@@ -135,6 +137,8 @@ sink_file-vertex_with op.Select t = refl
 sink_file-vertex_with op.Union t = refl
 sink_file-vertex_with op.Window t = refl
 sink_file-vertex_with op.Join t = refl
+sink_file-vertex_with op.Session t = refl
+sink_file-vertex_with op.Except t = refl
 sink_file-vertex_with op.Sink t = refl
 
 files-vertices : (tables : List Members) → filter_map sink_file_of_vertex (map vertex_in tables) ≡ sink_files tables

@@ -14,20 +14,20 @@ use Rattle.ss_job.specs.Document.{has_only}
 use Rattle.ss_job.specs.Faults.{first_fault_or, item_count, rest_faults, vertex_faults}
 use Rattle.ss_job.specs.Fields.{◌>>=◌, ◌>>◌, refuse, required, needed, as_texts, needed_text, needed_texts}
 use Rattle.ss_job.specs.Format.{Field, key_of, has, may_have, text, number, texts, are_texts, name_field, op_field, inner_fields, fields_of, vertex_keys}
-use Rattle.ss_job.specs.JobIn.{op_in, op_or_source, policy_in, select_in, window_in, file_in, vertex_with, inputs_in, nodes_in}
+use Rattle.ss_job.specs.JobIn.{op_in, op_or_source, policy_in, select_in, window_in, session_in, file_in, vertex_with, inputs_in, nodes_in}
 use Rattle.ss_job.specs.JobText.{inner}
 use Rattle.ss_job.specs.Lookup.{op_named, text_in, number_in, texts_of}
 use Rattle.ss_job.specs.LegalNames.{is_vertex_name, is_file_name}
-use Rattle.ss_job.specs.Vertices.{EntryText, name_of, op_of, if_stream, input_of, input_at, numbers_of, inputs_of, source_file_of, sink_file_of, writes_to, policy_of, select_of, window_of, operator_of, source_of, select_entry, window_entry, plain_entry, sink_of, entry_of, with_vertex, draft_after}
+use Rattle.ss_job.specs.Vertices.{EntryText, name_of, op_of, if_stream, input_of, input_at, numbers_of, inputs_of, source_file_of, sink_file_of, writes_to, policy_of, select_of, window_of, session_of, operator_of, source_of, select_entry, window_entry, session_entry, plain_entry, sink_of, entry_of, with_vertex, draft_after}
 use Rattle.ss_job.specs.Wrong.{fault_if, name_faults, names_in, is_among, sink_files, input_faults, inputs_faults, is_sink_at, number_of, has_input_count, said_faults, field_faults, value_faults}
 use Rattle.ss_job.specs.declared.fault.JobWhy.{JobWhy}
 use Rattle.ss_job.specs.declared.fault.JobWhy.TheVariants.{BadName, RepeatedName, RepeatedFile, BadOp, UnknownField, LaterInput, SinkAsInput, WrongInputCount}
-use Rattle.ss_job.specs.declared.field_name.FieldName.TheVariants.{Name, Op as OpField, Inputs, File, A, B, C, D, Where, Size, Hop, Agg, Of, Replicas}
+use Rattle.ss_job.specs.declared.field_name.FieldName.TheVariants.{Name, Op as OpField, Inputs, File, A, B, C, D, Where, Size, Hop, Gap, Agg, Of, Replicas}
 use Rattle.ss_job.specs.declared.op.Op.{Op}
 use Rattle.ss_job.specs.declared.op.Op.TheVariants as op
 use Rattle.ss_job.proofs.Absent.{get_member-absent}
 use Rattle.ss_job.proofs.Earlier.{draft_in, draft_in-push, streams_within, written-files}
-use Rattle.ss_job.proofs.FieldReadings.{needed_text_reads, hop_reads, size_reads, every_reads, replicas_reads, late_reads, value_reads, replay_reads, agg_reads, test_reads, a_reads, b_reads, c_reads, d_reads}
+use Rattle.ss_job.proofs.FieldReadings.{needed_text_reads, hop_reads, gap_reads, size_reads, every_reads, replicas_reads, late_reads, value_reads, replay_reads, agg_reads, test_reads, a_reads, b_reads, c_reads, d_reads}
 use Rattle.ss_job.proofs.Readings.{Reads, then, done, refused, made}
 
 -- ---- name and op
@@ -206,6 +206,16 @@ window_reads earlier t =
     then _ (agg_reads op.Window earlier t) (λ _.
     then _ (value_reads op.Window earlier t) (λ _. done (window_in t)))))
 
+abbrev session_fields : List Field
+session_fields = has Gap number ∷ has Agg text ∷ may_have Of text ∷ []
+
+session_reads : (earlier : List Members) (t : Members) → Reads (session_of t) (wrong_in op.Session earlier t session_fields) (session_in t)
+unfolding session_of
+session_reads earlier t =
+    then _ (gap_reads op.Session earlier t) (λ _.
+    then _ (agg_reads op.Session earlier t) (λ _.
+    then _ (value_reads op.Session earlier t) (λ _. done (session_in t))))
+
 pub select_entry_reads : (earlier : List Members) (t : Members) → Reads (select_entry (draft_in earlier) t) (wrong_in op.Select earlier t (fields_of op.Select)) (entry_in earlier op.Select t)
 unfolding select_entry
 select_entry_reads earlier t =
@@ -217,6 +227,12 @@ unfolding window_entry
 window_entry_reads earlier t =
     then _ (inputs_reads op.Window earlier t) (λ _.
     two_groups op.Window earlier t window_fields inner_fields (then _ (window_reads earlier t) (λ _. operator_reads op.Window earlier t (inputs_in earlier t) (window_in t))))
+
+pub session_entry_reads : (earlier : List Members) (t : Members) → Reads (session_entry (draft_in earlier) t) (wrong_in op.Session earlier t (fields_of op.Session)) (entry_in earlier op.Session t)
+unfolding session_entry
+session_entry_reads earlier t =
+    then _ (inputs_reads op.Session earlier t) (λ _.
+    two_groups op.Session earlier t session_fields inner_fields (then _ (session_reads earlier t) (λ _. operator_reads op.Session earlier t (inputs_in earlier t) (session_in t))))
 
 pub plain_entry_reads : (o : Op) (s : Spec) (earlier : List Members) (t : Members) → Reads (plain_entry (draft_in earlier) o s t) (wrong_in o earlier t (has Inputs texts ∷ inner_fields)) (record { inputs = inputs_in earlier t; replicas = number_in Replicas 1 t; vertex = inner s (policy_in t) })
 unfolding plain_entry
@@ -236,6 +252,8 @@ entry_reads op.Select earlier t only = select_entry_reads earlier t
 entry_reads op.Union earlier t only = plain_entry_reads op.Union spec.Union earlier t
 entry_reads op.Window earlier t only = window_entry_reads earlier t
 entry_reads op.Join earlier t only = plain_entry_reads op.Join spec.Join earlier t
+entry_reads op.Session earlier t only = session_entry_reads earlier t
+entry_reads op.Except earlier t only = plain_entry_reads op.Except spec.Except earlier t
 entry_reads op.Sink earlier t only = sink_reads earlier t only
 
 -- ---- a vertex

@@ -4,10 +4,10 @@ use Rattle.std.specs.Prelude.{ℕ, Bool, true, false, ◌&&◌, List, [], ◌∷
 use Rattle.toml.specs.Data.{Data, Items, no_items, item, as_str, as_integer, array}
 use Rattle.ss_job.specs.declared.field_name.FieldName.{FieldName}
 use Rattle.ss_job.specs.declared.field_name.FieldName.TheVariants.{Job, Vertex, MaxElements, CollectEvery, Name, Op}
-use Rattle.ss_job.specs.declared.field_name.FieldName.TheVariants.{Inputs, File, Late, Where, A, B, C, D, Size, Hop, Agg}
-use Rattle.ss_job.specs.declared.field_name.FieldName.TheVariants.{Of, Recover, Every, Replicas}
+use Rattle.ss_job.specs.declared.field_name.FieldName.TheVariants.{Inputs, File, Late, Where, A, B, C, D, Size, Hop, Gap}
+use Rattle.ss_job.specs.declared.field_name.FieldName.TheVariants.{Agg, Of, Recover, Every, Replicas}
 use Rattle.ss_job.specs.declared.op.Op.{Op as Operator}
-use Rattle.ss_job.specs.declared.op.Op.TheVariants.{Source, Select, Union, Window, Join, Sink}
+use Rattle.ss_job.specs.declared.op.Op.TheVariants.{Source, Select, Union, Window, Join, Session, Except, Sink}
 
 -- the key under which a field stands
 abbrev pub key_of : FieldName → List ℕ
@@ -27,6 +27,7 @@ key_of C = codes "c"
 key_of D = codes "d"
 key_of Size = codes "size"
 key_of Hop = codes "hop"
+key_of Gap = codes "gap"
 key_of Agg = codes "agg"
 key_of Of = codes "of"
 key_of Recover = codes "recover"
@@ -92,6 +93,8 @@ fields_of Select =
 fields_of Union = has Inputs texts ∷ inner_fields
 fields_of Window = has Inputs texts ∷ has Hop number ∷ has Size number ∷ has Agg text ∷ may_have Of text ∷ inner_fields
 fields_of Join = has Inputs texts ∷ inner_fields
+fields_of Session = has Inputs texts ∷ has Gap number ∷ has Agg text ∷ may_have Of text ∷ inner_fields
+fields_of Except = has Inputs texts ∷ inner_fields
 fields_of Sink = has Inputs texts ∷ has File text ∷ []
 
 -- the keys of these fields
@@ -109,6 +112,8 @@ fewest_inputs Select = 1
 fewest_inputs Union = 2
 fewest_inputs Window = 1
 fewest_inputs Join = 2
+fewest_inputs Session = 1
+fewest_inputs Except = 2
 fewest_inputs Sink = 1
 
 abbrev pub most_inputs : Operator → ℕ
@@ -117,6 +122,8 @@ most_inputs Select = 1
 most_inputs Union = 8
 most_inputs Window = 1
 most_inputs Join = 2
+most_inputs Session = 1
+most_inputs Except = 2
 most_inputs Sink = 1
 
 -- the most vertices of a job

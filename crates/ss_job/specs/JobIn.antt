@@ -15,8 +15,8 @@ use Rattle.ss_job.specs.Lookup.{text_in, number_in, texts_in, tables_of, word_in
 use Rattle.ss_job.specs.Lookup.{late_named, agg_named, value_named, replay_named}
 use Rattle.ss_job.specs.Wrong.{number_of}
 use Rattle.ss_job.specs.declared.field_name.FieldName.TheVariants.{Job, Vertex, MaxElements, CollectEvery, Name}
-use Rattle.ss_job.specs.declared.field_name.FieldName.TheVariants.{Inputs, File, Late, Where, A, B, C, D, Size, Hop, Agg}
-use Rattle.ss_job.specs.declared.field_name.FieldName.TheVariants.{Of, Recover, Every, Replicas, Op}
+use Rattle.ss_job.specs.declared.field_name.FieldName.TheVariants.{Inputs, File, Late, Where, A, B, C, D, Size, Hop, Gap}
+use Rattle.ss_job.specs.declared.field_name.FieldName.TheVariants.{Agg, Of, Recover, Every, Replicas, Op}
 use Rattle.ss_job.specs.declared.op.Op.{Op as Operator}
 use Rattle.ss_job.specs.declared.op.Op.TheVariants as op
 use Rattle.ss_job.specs.declared.policy.Policy.{Policy}
@@ -60,6 +60,10 @@ window_in table =
     spec.Window (number_in Size 0 table) (number_in Hop 0 table)
     (word_in agg_named Agg agg.Sum table) (word_in value_named Of value.A table)
 
+abbrev pub session_in : Members → Spec
+session_in table =
+    spec.Session (number_in Gap 0 table) (word_in agg_named Agg agg.Sum table) (word_in value_named Of value.A table)
+
 -- the file of a source or a sink
 abbrev pub file_in : Members → List ℕ
 file_in table = unwrap_or (text_in File table) []
@@ -71,6 +75,8 @@ vertex_with op.Select table = inner (select_in table) (policy_in table)
 vertex_with op.Union table = inner spec.Union (policy_in table)
 vertex_with op.Window table = inner (window_in table) (policy_in table)
 vertex_with op.Join table = inner spec.Join (policy_in table)
+vertex_with op.Session table = inner (session_in table) (policy_in table)
+vertex_with op.Except table = inner spec.Except (policy_in table)
 vertex_with op.Sink table = sink (file_in table)
 
 abbrev pub op_or_source : Members → Operator

@@ -29,6 +29,8 @@ op_of_spec (spec.Select test a b c d) = op.Select
 op_of_spec spec.Union = op.Union
 op_of_spec (spec.Window size hop agg of) = op.Window
 op_of_spec spec.Join = op.Join
+op_of_spec (spec.Session gap agg of) = op.Session
+op_of_spec spec.Except = op.Except
 
 abbrev pub op_of_vertex : VertexText → Op
 op_of_vertex (source file late) = op.Source

@@ -28,7 +28,8 @@ abbrev pub op_named : List ℕ → Option Op
 op_named =
     meaning_in (
     (codes "source", op.Source) ∷ (codes "select", op.Select) ∷ (codes "union", op.Union)
-    ∷ (codes "window", op.Window) ∷ (codes "join", op.Join) ∷ (codes "sink", op.Sink) ∷ []
+    ∷ (codes "window", op.Window) ∷ (codes "join", op.Join) ∷ (codes "session", op.Session)
+    ∷ (codes "except", op.Except) ∷ (codes "sink", op.Sink) ∷ []
     )
 
 abbrev pub late_named : List ℕ → Option Late

@@ -4,7 +4,7 @@ use Rattle.std.specs.List.{IsDistinct, list_any}
 use Rattle.ss_expr.specs.Kinds.{HasKind}
 use Rattle.ss_expr.specs.declared.kind.ValueKind.TheVariants.{Truth, Num}
 use Rattle.ss_expr.specs.declared.stream_operator.Spec.{Spec}
-use Rattle.ss_expr.specs.declared.stream_operator.Spec.TheVariants.{Select, Union, Window, Join}
+use Rattle.ss_expr.specs.declared.stream_operator.Spec.TheVariants.{Select, Union, Window, Join, Session, Except}
 use Rattle.ss_fail.specs.declared.role.Role.{Role}
 use Rattle.ss_job.specs.Format.{fewest_inputs, most_inputs}
 use Rattle.ss_job.specs.JobIn.{kind_of}
@@ -29,13 +29,15 @@ pub record IsWindow (size hop : ℕ) : Type 0 where
   pub size_of : IsFrom hop (64 * hop) size
   pub multiple : size % hop ≡ 0
 
--- what a select computes is of the right kinds, and a window has whole hops
+-- what a select computes is of the right kinds, a window has whole hops, and the gap of a session is in range
 abbrev pub IsSpec : Spec → Type 0
 IsSpec (Select test a b c d) =
     IfSome test (λ e. HasKind e Truth) × HasKind a Num × HasKind b Num × HasKind c Num × HasKind d Num
 IsSpec Union = Unit {0}
 IsSpec (Window size hop agg of) = IsWindow size hop
 IsSpec Join = Unit {0}
+IsSpec (Session gap agg of) = IsFrom 1 (2 ^ 40) gap
+IsSpec Except = Unit {0}
 
 -- the files of sources and sinks are such as they may have, and operators compute what they can, as they may
 abbrev pub IsVertexText : VertexText → Type 0

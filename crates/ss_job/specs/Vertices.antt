@@ -22,7 +22,7 @@ use Rattle.ss_job.specs.declared.fault.JobWhy.TheVariants.{WrongKind, UnknownFie
 use Rattle.ss_job.specs.declared.fault.JobWhy.TheVariants.{RepeatedFile, BadOp, LaterInput, SinkAsInput}
 use Rattle.ss_job.specs.declared.fault.JobWhy.TheVariants.{WrongInputCount}
 use Rattle.ss_job.specs.declared.field_name.FieldName.TheVariants.{Name, Op as OpField, Inputs, File, A, B, C, D, Hop}
-use Rattle.ss_job.specs.declared.field_name.FieldName.TheVariants.{Every, Replicas}
+use Rattle.ss_job.specs.declared.field_name.FieldName.TheVariants.{Gap, Every, Replicas}
 use Rattle.ss_job.specs.declared.op.Op.{Op}
 use Rattle.ss_job.specs.declared.op.Op.TheVariants as op
 use Rattle.ss_job.specs.declared.policy.Policy.{Policy}
@@ -138,6 +138,13 @@ window_of table = do
   value ← value_of table
   Ok (spec.Window size hop agg value)
 
+unfoldable pub session_of : Members → Result Spec JobWhy
+session_of table = do
+  gap ← needed_number Gap 1 (2 ^ 40) table
+  agg ← agg_of table
+  value ← value_of table
+  Ok (spec.Session gap agg value)
+
 -- an operator with these inputs that computes this
 unfoldable pub operator_of : List ℕ → Spec → Members → Result EntryText JobWhy
 operator_of inputs s table = do
@@ -163,6 +170,12 @@ window_entry draft table = do
   s ← window_of table
   operator_of inputs s table
 
+unfoldable pub session_entry : DraftText → Members → Result EntryText JobWhy
+session_entry draft table = do
+  inputs ← inputs_of draft op.Session table
+  s ← session_of table
+  operator_of inputs s table
+
 -- an operator of which the op says all
 unfoldable pub plain_entry : DraftText → Op → Spec → Members → Result EntryText JobWhy
 plain_entry draft op s table = do
@@ -181,6 +194,8 @@ entry_of draft op.Select table = select_entry draft table
 entry_of draft op.Union table = plain_entry draft op.Union spec.Union table
 entry_of draft op.Window table = window_entry draft table
 entry_of draft op.Join table = plain_entry draft op.Join spec.Join table
+entry_of draft op.Session table = session_entry draft table
+entry_of draft op.Except table = plain_entry draft op.Except spec.Except table
 entry_of draft op.Sink table = sink_of draft table
 
 -- ---- a vertex more

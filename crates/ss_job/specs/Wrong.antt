@@ -21,8 +21,8 @@ use Rattle.ss_job.specs.declared.fault.JobWhy.TheVariants.{RepeatedName, Repeate
 use Rattle.ss_job.specs.declared.fault.JobWhy.TheVariants.{SinkAsInput, WrongInputCount, BadRange, BadExpr}
 use Rattle.ss_job.specs.declared.field_name.FieldName.{FieldName}
 use Rattle.ss_job.specs.declared.field_name.FieldName.TheVariants.{MaxElements, CollectEvery, Name, Op, File, Late}
-use Rattle.ss_job.specs.declared.field_name.FieldName.TheVariants.{Where, A, B, C, D, Size, Hop, Agg, Of, Recover, Every}
-use Rattle.ss_job.specs.declared.field_name.FieldName.TheVariants.{Replicas}
+use Rattle.ss_job.specs.declared.field_name.FieldName.TheVariants.{Where, A, B, C, D, Size, Hop, Gap, Agg, Of, Recover}
+use Rattle.ss_job.specs.declared.field_name.FieldName.TheVariants.{Every, Replicas}
 use Rattle.ss_job.specs.declared.op.Op.{Op as Operator}
 use Rattle.ss_job.specs.declared.op.Op.TheVariants.{Sink}
 
@@ -141,6 +141,7 @@ abbrev pub number_faults : FieldName → Members → ℤ → List JobWhy
 number_faults MaxElements table got = range_faults MaxElements 1 131072 got
 number_faults CollectEvery table got = range_faults CollectEvery 64 131072 got
 number_faults Hop table got = range_faults Hop 1 (2 ^ 40) got
+number_faults Gap table got = range_faults Gap 1 (2 ^ 40) got
 number_faults Size table got = size_faults (number_in Hop 0 table) got
 number_faults Every table got = range_faults Every 1 131072 got
 number_faults Replicas table got = range_faults Replicas 1 4 got

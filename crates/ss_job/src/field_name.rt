@@ -36,9 +36,11 @@ pub enum FieldName {
     Size,
     /// How far apart a window's ends are.
     Hop,
-    /// What a window makes of its rows' values.
+    /// How far apart two rows of a key start that are of different sessions.
+    Gap,
+    /// What a window or a session makes of its rows' values.
     Agg,
-    /// Which of the values a window takes.
+    /// Which of the values a window or a session takes.
     Of,
     /// How a vertex is recovered.
     Recover,
@@ -70,6 +72,7 @@ impl FieldName {
             FieldName::D => "d",
             FieldName::Size => "size",
             FieldName::Hop => "hop",
+            FieldName::Gap => "gap",
             FieldName::Agg => "agg",
             FieldName::Of => "of",
             FieldName::Recover => "recover",

@@ -89,6 +89,8 @@ impl Job {
                 Spec::Union => Op::Union,
                 Spec::Window { .. } => Op::Window,
                 Spec::Join => Op::Join,
+                Spec::Session { .. } => Op::Session,
+                Spec::Except => Op::Except,
             },
             Vertex::Sink { .. } => Op::Sink,
         }

@@ -19,6 +19,10 @@ pub enum Op {
     Window,
     /// It gives the pairs of rows of two inputs that have one key and overlap.
     Join,
+    /// It gives aggregates of the sessions of each key.
+    Session,
+    /// It gives the rows of its first input that no row of the second with their key overlaps.
+    Except,
     /// It writes what it reads to a file.
     Sink,
 }
@@ -34,6 +38,8 @@ impl Op {
             "union" => Some(Op::Union),
             "window" => Some(Op::Window),
             "join" => Some(Op::Join),
+            "session" => Some(Op::Session),
+            "except" => Some(Op::Except),
             "sink" => Some(Op::Sink),
             _ => None,
         }
@@ -48,9 +54,14 @@ impl Op {
             Op::Select => &[
                 "name", "op", "inputs", "where", "a", "b", "c", "d", "recover", "every", "replicas",
             ],
-            Op::Union | Op::Join => &["name", "op", "inputs", "recover", "every", "replicas"],
+            Op::Union | Op::Join | Op::Except => {
+                &["name", "op", "inputs", "recover", "every", "replicas"]
+            }
             Op::Window => &[
                 "name", "op", "inputs", "hop", "size", "agg", "of", "recover", "every", "replicas",
+            ],
+            Op::Session => &[
+                "name", "op", "inputs", "gap", "agg", "of", "recover", "every", "replicas",
             ],
             Op::Sink => &["name", "op", "inputs", "file"],
         }
@@ -63,9 +74,9 @@ impl Op {
     {
         match self {
             Op::Source => count == 0,
-            Op::Select | Op::Window | Op::Sink => count == 1,
+            Op::Select | Op::Window | Op::Session | Op::Sink => count == 1,
             Op::Union => 2 <= count && count <= 8,
-            Op::Join => count == 2,
+            Op::Join | Op::Except => count == 2,
         }
     }
 
@@ -75,7 +86,9 @@ impl Op {
     {
         match self {
             Op::Source => Kind::Source,
-            Op::Select | Op::Union | Op::Window | Op::Join => Kind::Inner,
+            Op::Select | Op::Union | Op::Window | Op::Join | Op::Session | Op::Except => {
+                Kind::Inner
+            }
             Op::Sink => Kind::Sink,
         }
     }

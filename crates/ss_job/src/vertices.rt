@@ -7,7 +7,8 @@ ghost use Rattle.ss_job.specs.Fields.{optional_number};
 ghost use Rattle.ss_job.specs.OwnedEntry.{entry_text};
 ghost use Rattle.ss_job.specs.Vertices.{op_of, input_at, numbers_of, inputs_of, source_file_of, sink_file_of};
 ghost use Rattle.ss_job.specs.Vertices.{policy_of, select_of, window_of, operator_of, source_of, select_entry};
-ghost use Rattle.ss_job.specs.Vertices.{window_entry, plain_entry, sink_of, entry_of, draft_after};
+ghost use Rattle.ss_job.specs.Vertices.{window_entry, session_of, session_entry, plain_entry, sink_of, entry_of};
+ghost use Rattle.ss_job.specs.Vertices.{draft_after};
 ghost use Rattle.ss_job.specs.Wrong.{has_input_count};
 ghost use Rattle.ss_job.specs.declared.field_name.FieldName.TheVariants.{Replicas};
 
@@ -32,6 +33,9 @@ use toml::{Table, Value};
 
 /// The longest hop of a window.
 const MOST_HOP: u64 = 1 << 40;
+
+/// The longest gap of a session.
+const MOST_GAP: u64 = 1 << 40;
 
 /// The most elements between two snapshots.
 const MOST_EVERY: u64 = 131072;
@@ -76,6 +80,8 @@ fn entry_of(alloc: Global, draft: &Draft, op: Op, table: &Table) -> Result<Entry
         Op::Union => plain_entry(draft, op, Spec::Union, table),
         Op::Window => window_entry(draft, table),
         Op::Join => plain_entry(draft, op, Spec::Join, table),
+        Op::Session => session_entry(draft, table),
+        Op::Except => plain_entry(draft, op, Spec::Except, table),
         Op::Sink => sink_of(alloc, draft, table),
     }
 }
@@ -110,6 +116,15 @@ fn window_entry(draft: &Draft, table: &Table) -> Result<Entry, Refusal>
 {
     let inputs = inputs_of(draft, Op::Window, table)?;
     let spec = window_of(table)?;
+    operator_of(inputs, spec, table)
+}
+
+#[tactic(auto, unfolding(crate::specs::Vertices::session_entry))]
+fn session_entry(draft: &Draft, table: &Table) -> Result<Entry, Refusal>
+    ensures { AnswersReading entry_text result (session_entry draft.now (table_view table.now)) }
+{
+    let inputs = inputs_of(draft, Op::Session, table)?;
+    let spec = session_of(table)?;
     operator_of(inputs, spec, table)
 }
 
@@ -191,6 +206,16 @@ fn window_of(table: &Table) -> Result<Spec, JobWhy>
     let agg = agg_of(table)?;
     let of = value_of(table)?;
     Ok(Spec::Window { size, hop, agg, of })
+}
+
+#[tactic(auto, unfolding(crate::specs::Vertices::session_of))]
+fn session_of(table: &Table) -> Result<Spec, JobWhy>
+    ensures { result ≡ session_of (table_view table.now) }
+{
+    let gap = needed_number(table, FieldName::Gap, 1, MOST_GAP)?;
+    let agg = agg_of(table)?;
+    let of = value_of(table)?;
+    Ok(Spec::Session { gap, agg, of })
 }
 
 #[tactic(auto, unfolding(crate::specs::Vertices::source_file_of))]

@@ -9,18 +9,22 @@ use Rattle.ss_elem.specs.Validity.{top}
 use Rattle.ss_elem.specs.declared.element.Event.{Event}
 use Rattle.ss_meaning.specs.Bound.{bound, rows}
 use Rattle.ss_meaning.specs.Merge.{from_input}
-use Rattle.ss_meaning.specs.Entries.{Entries, NoEntries, WindowEntries, JoinRows, rows_ending_above, join_side}
-use Rattle.ss_join.specs.ImageLaws.{MayStand, SidesAreReadAgain, IsTaken, StatesAreReadAgain}
+use Rattle.ss_meaning.specs.Entries.{Entries, NoEntries, WindowEntries, JoinRows, SessionEntries, rows_ending_above, join_side, alone_side}
+use Rattle.ss_meaning.specs.Emit.{Except}
+use Rattle.ss_meaning.specs.Except.{alone}
+use Rattle.ss_join.specs.ImageLaws.{MayStand, SidesAreReadAgain, IsTaken, StatesAreReadAgain, StatesAreReadAgainAs}
 
 left_in : Entries → List Event
 left_in NoEntries = []
 left_in (WindowEntries es) = []
 left_in (JoinRows left right) = left
+left_in (SessionEntries es) = []
 
 right_in : Entries → List Event
 right_in NoEntries = []
 right_in (WindowEntries es) = []
 right_in (JoinRows left right) = right
+right_in (SessionEntries es) = []
 
 same_left : (l r m s : List Event) → JoinRows l r ≡ JoinRows m s → l ≡ m
 unfolding left_in
@@ -70,3 +74,11 @@ states_are_read_again again sides p bounds stood are left_taken right_taken few 
     (same_left sides.left sides.right (join_side 0 p) (join_side 1 p) stood) are.right left_taken)
     (side_may_stand (bound (from_input 0 p)) (slice_index bounds 0) (rows (from_input 1 p)) sides.right
     (same_right sides.left sides.right (join_side 0 p) (join_side 1 p) stood) are.left right_taken)
+
+pub absence_is_read_again : SidesAreReadAgain → StatesAreReadAgainAs Except
+absence_is_read_again again sides p bounds stood are left_taken right_taken few =
+    again bounds sides few
+    (side_may_stand (bound (from_input 1 p)) (slice_index bounds 1) (alone (rows (from_input 1 p)) (rows (from_input 0 p))) sides.left
+    (same_left sides.left sides.right (alone_side p) (join_side 1 p) stood) are.right left_taken)
+    (side_may_stand (bound (from_input 0 p)) (slice_index bounds 0) (rows (from_input 1 p)) sides.right
+    (same_right sides.left sides.right (alone_side p) (join_side 1 p) stood) are.left right_taken)

@@ -6,10 +6,11 @@ use Rattle.ss_elem.specs.Validity.{next_bound}
 use Rattle.ss_elem.specs.declared.element.Event.{Event}
 use Rattle.ss_elem.specs.declared.element.Element.TheVariants.{Row}
 use Rattle.ss_meaning.specs.Merge.{Arrival}
+use Rattle.ss_meaning.specs.Emit.{Kind, Join}
 use Rattle.ss_image.specs.declared.row_form.RowForm.TheVariants.{Narrow}
 use Rattle.ss_image.specs.Images.{image_in, join_image}
 use Rattle.ss_join.specs.ImageTests.{is_open_span, image_read}
-use Rattle.ss_join.specs.States.{Sides, StandsAfter, AreBoundsAfter}
+use Rattle.ss_join.specs.States.{Sides, StandsAs, AreBoundsAfter}
 
 -- a row may stand in an image where the other input has this bound: it passes the tests of its span
 pub record MayStand (bound : ℕ) (row : Event) : Type 0 where
@@ -37,9 +38,13 @@ pub record IsTaken (row : Event) : Type 0 where
   pub follows : (bound : ℕ) × (next_bound bound (Row row) ≡ Some bound)
   pub is_kept : IsKeptRow row
 
--- what a join remembers after any p is read from its image, where its rows may follow in streams
-abbrev pub StatesAreReadAgain : Type 0
-StatesAreReadAgain =
-    (sides : Sides) (p : List Arrival) (bounds : List ℕ) → StandsAfter sides p → AreBoundsAfter p bounds
+-- what an operator of this kind remembers after any p is read from its image, where its rows may follow in streams
+abbrev pub StatesAreReadAgainAs : Kind → Type 0
+StatesAreReadAgainAs kind =
+    (sides : Sides) (p : List Arrival) (bounds : List ℕ) → StandsAs kind sides p → AreBoundsAfter p bounds
     → All IsTaken sides.left → All IsTaken sides.right → length sides.left + length sides.right < 2 ^ 32
     → image_read bounds (join_image sides.left sides.right) ≡ Ok sides
+
+-- so it is of a join
+abbrev pub StatesAreReadAgain : Type 0
+StatesAreReadAgain = StatesAreReadAgainAs Join

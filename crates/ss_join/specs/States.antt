@@ -8,7 +8,7 @@ use Rattle.ss_elem.specs.declared.element.Element.TheVariants.{Row}
 use Rattle.ss_meaning.specs.Bound.{bound}
 use Rattle.ss_meaning.specs.Merge.{Arrival, from_input}
 use Rattle.ss_meaning.specs.Join.{join_rows}
-use Rattle.ss_meaning.specs.Emit.{Join, rows_at}
+use Rattle.ss_meaning.specs.Emit.{Kind, Join, rows_at}
 use Rattle.ss_meaning.specs.Entries.{JoinRows, rows_ending_above, entries_after}
 
 -- the rows that are remembered of the left and of the right input
@@ -16,9 +16,13 @@ pub record Sides : Type 0 where
   pub left : List Event
   pub right : List Event
 
+-- these sides are what an operator of this kind, a join or a join by absence, has to remember after p
+abbrev pub StandsAs : Kind → Sides → List Arrival → Type 0
+StandsAs kind sides p = JoinRows sides.left sides.right ≡ entries_after kind 2 p
+
 -- the join remembers what its operator has to remember after p
 abbrev pub StandsAfter : Sides → List Arrival → Type 0
-StandsAfter sides p = JoinRows sides.left sides.right ≡ entries_after Join 2 p
+StandsAfter sides p = StandsAs Join sides p
 
 -- an element from an input
 abbrev pub arrival : ℕ → Element → Arrival
@@ -34,17 +38,21 @@ pub record AreBoundsAfter (p : List Arrival) (bounds : List ℕ) : Type 0 where
   pub left : slice_index bounds 0 ≡ bound (from_input 0 p)
   pub right : slice_index bounds 1 ≡ bound (from_input 1 p)
 
--- at x the join steps as its operator does after p: it remembers what is to be remembered then, and the operator's
--- rows stand behind what was given before
-pub record Steps (new : Sides) (before after : List Element) (p : List Arrival) (x : Arrival) : Type 0 where
-  pub stands : StandsAfter new (p ++ x ∷ [])
-  pub given : after ≡ before ++ map (λ row. Row row) (rows_at Join 2 p x)
+-- at x these sides step as an operator of this kind does after p: they are what is to be remembered then, and the
+-- operator's rows stand behind what was given before
+pub record Steps (kind : Kind) (new : Sides) (before after : List Element) (p : List Arrival) (x : Arrival) : Type 0 where
+  pub stands : StandsAs kind new (p ++ x ∷ [])
+  pub given : after ≡ before ++ map (λ row. Row row) (rows_at kind 2 p x)
 
--- it does so after each p after which the join stood and x may follow, where the bounds given are those after x
+-- they do so after each p after which they stood and x may follow, where the bounds given are those after x
+abbrev pub StepsAs : Kind → Sides → Sides → List Element → List Element → ℕ → Element → List ℕ → Type 0
+StepsAs kind old new before after input x bounds =
+    (p : List Arrival) → StandsAs kind old p → MayFollow p (arrival input x)
+    → AreBoundsAfter (p ++ arrival input x ∷ []) bounds → Steps kind new before after p (arrival input x)
+
+-- the join steps as its operator does
 abbrev pub StepsFromAll : Sides → Sides → List Element → List Element → ℕ → Element → List ℕ → Type 0
-StepsFromAll old new before after input x bounds =
-    (p : List Arrival) → StandsAfter old p → MayFollow p (arrival input x)
-    → AreBoundsAfter (p ++ arrival input x ∷ []) bounds → Steps new before after p (arrival input x)
+StepsFromAll old new before after input x bounds = StepsAs Join old new before after input x bounds
 
 -- after each p after which the join stood and x may follow, the operator gives so many rows at x
 abbrev pub CountsGiven : Sides → ℕ → Element → ℕ → Type 0

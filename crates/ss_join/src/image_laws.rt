@@ -3,6 +3,8 @@ ghost use Rattle.ss_join.specs.ImageExamples.{OneByteFewer, EndedRow};
 ghost use Rattle.ss_join.specs.ImageExamples.{WideRowsSpelled, WideRowsRead, WideWithoutNeed, NeitherForm, NoRowsRead};
 ghost use Rattle.ss_join.specs.ImageExamples.{WideRowEnded, NarrowAgain};
 ghost use Rattle.ss_join.specs.ImageLaws.{SidesAreReadAgain, NarrowImagesAreRead, StatesAreReadAgain};
+ghost use Rattle.ss_join.specs.ImageLaws.{StatesAreReadAgainAs};
+ghost use Rattle.ss_meaning.specs.Emit.{Except};
 
 use ss_image::numbers_are_read_again;
 
@@ -27,11 +29,12 @@ pub fn wide_image_examples()
     ensures narrow_again { NarrowAgain }
 {}
 
-/// What a join remembers is read from its image, where its rows may follow in streams.
+/// What a join or a join by absence remembers is read from its image, where its rows may follow in streams.
 pub fn images_are_read_again()
     ensures sides { SidesAreReadAgain }
     ensures narrow { NarrowImagesAreRead }
     ensures states { StatesAreReadAgain }
+    ensures absence { StatesAreReadAgainAs Except }
 {
     numbers_are_read_again();
 }

@@ -20,10 +20,10 @@ and_false : (b : Bool) → (b && false) ≡ false
 and_false true = refl
 and_false false = refl
 
-filter-kept : {A : Type 0} (test : A → Bool) (x : A) (xs : List A) → test x ≡ true → filter test (x ∷ xs) ≡ x ∷ filter test xs
+pub filter-kept : {A : Type 0} (test : A → Bool) (x : A) (xs : List A) → test x ≡ true → filter test (x ∷ xs) ≡ x ∷ filter test xs
 filter-kept test x xs h = ap (λ b. cond b (x ∷ filter test xs) (filter test xs)) h
 
-filter-dropped : {A : Type 0} (test : A → Bool) (x : A) (xs : List A) → test x ≡ false → filter test (x ∷ xs) ≡ filter test xs
+pub filter-dropped : {A : Type 0} (test : A → Bool) (x : A) (xs : List A) → test x ≡ false → filter test (x ∷ xs) ≡ filter test xs
 filter-dropped test x xs h = ap (λ b. cond b (x ∷ filter test xs) (filter test xs)) h
 
 pub filter_alike : {A : Type 0} (p q : A → Bool) (xs : List A) → ((x : A) → p x ≡ q x) → filter p xs ≡ filter q xs
@@ -31,7 +31,7 @@ filter_alike p q [] same = refl
 filter_alike p q (x ∷ xs) same =
     ap (λ b. cond b (x ∷ filter p xs) (filter p xs)) (same x) ∙ ap (λ ys. cond (q x) (x ∷ ys) ys) (filter_alike p q xs same)
 
-filter-filter : {A : Type 0} (p q : A → Bool) (xs : List A) → filter p (filter q xs) ≡ filter (λ x. q x && p x) xs
+pub filter-filter : {A : Type 0} (p q : A → Bool) (xs : List A) → filter p (filter q xs) ≡ filter (λ x. q x && p x) xs
 filter-filter p q [] = refl
 filter-filter p q (x ∷ xs) = by_test (q x) (filter-filter p q xs)
   where
@@ -42,7 +42,7 @@ filter-filter p q (x ∷ xs) = by_test (q x) (filter-filter p q xs)
 
 -- numbers in rising order
 
-put_once-below : (n : ℕ) (ns : List ℕ) → AllByRecursion (λ m. n < m) ns → put_once n ns ≡ n ∷ ns
+pub put_once-below : (n : ℕ) (ns : List ℕ) → AllByRecursion (λ m. n < m) ns → put_once n ns ≡ n ∷ ns
 put_once-below n [] h = refl
 put_once-below n (m ∷ ms) h = ap (λ b. cond b (n ∷ m ∷ ms) (cond (n == m) (m ∷ ms) (m ∷ put_once n ms))) (lt-ltb n m h.0)
 

@@ -7,7 +7,7 @@ use Rattle.ss_meaning.specs.Entries.{rows_ending_above}
 use Rattle.ss_meaning.specs.JoinLaws.{EndedRowsNeverJoin, SideAfterRise, SideAfterRow}
 
 -- a row that has ended by the start of another does not match it
-ended_is_no_match : (x y : Event) → y.end ≤ x.start → matches x y ≡ false
+pub ended_is_no_match : (x y : Event) → y.end ≤ x.start → matches x y ≡ false
 ended_is_no_match x y h = by_key (x.key == y.key)
   where
     later : nat_lt x.start y.end ≡ false

@@ -6,6 +6,7 @@ pub mod Counts
 pub mod Lows
 pub mod GivenRows
 pub mod SessionRows
+pub mod SessionsOf
 pub mod ExceptRows
 pub mod Rows
 pub mod Outputs
@@ -16,10 +17,14 @@ pub mod Arriving
 pub mod EntryFinds
 pub mod EntryPuts
 pub mod EntryEnds
+pub mod ByTime
+pub mod SessionsClosed
 pub mod Aggregates
 pub mod EntryLooks
 pub mod EntrySteps
 pub mod JoinSides
+pub mod ExceptSides
+pub mod ExceptEnds
 pub mod InputBounds
 pub mod Sorting
 pub mod SessionPuts

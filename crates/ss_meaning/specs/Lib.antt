@@ -5,6 +5,7 @@ pub mod Low
 pub mod Inputs
 pub mod Window
 pub mod Join
+pub mod ByTime
 pub mod Session
 pub mod Except
 pub mod Emit
@@ -22,3 +23,6 @@ pub mod JoinLaws
 pub mod SessionLists
 pub mod SessionLaws
 pub mod SessionExamples
+pub mod SessionRows
+pub mod ExceptLaws
+pub mod ExceptExamples

@@ -5,6 +5,7 @@ ghost use Rattle.ss_meaning.specs.Laws.{OutputGrowsByEmit, OutputOnlyGrows, Posi
 ghost use Rattle.ss_meaning.specs.Laws.{OutNeverFalls, OutAtTheEnd, MeaningByInputs, MeaningIsWhole, MeaningIsEarly};
 ghost use Rattle.ss_meaning.specs.Laws.{BoundsAfterArrival, CountsAfterArrival, LowIsTheLeastBound};
 ghost use Rattle.ss_meaning.specs.Laws.{NextInputArrives, SortedIsInOrder};
+ghost use Rattle.ss_meaning.specs.SessionRows.{SessionsAreOfRows, ClosedAreByTime, ClosedAreCounted};
 
 /// The bound of a list that keeps the rules of a stream is the one that those rules keep track of.
 pub fn bound_is_that_of_valid_lists()
@@ -34,6 +35,17 @@ pub fn low_never_falls()
 pub fn windows_with_rows_are_given()
     ensures ends { WindowEndsHaveRows }
     ensures keys { WindowKeysHaveRows }
+{}
+
+/// A session begins and ends where rows start, and counts no more rows than there are.
+pub fn sessions_are_of_rows()
+    ensures { SessionsAreOfRows }
+{}
+
+/// The sessions that close in a span of time are given in the order in which they close.
+pub fn sessions_close_in_time()
+    ensures order { ClosedAreByTime }
+    ensures count { ClosedAreCounted }
 {}
 
 /// What is given for one more arrival comes behind what was given before it.

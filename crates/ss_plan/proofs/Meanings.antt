@@ -39,6 +39,8 @@ source_stream node (inner (spec.Select test a b c d) policy) list f e = cc
 source_stream node (inner spec.Union policy) list f e = cc
 source_stream node (inner (spec.Window size hop agg of) policy) list f e = cc
 source_stream node (inner spec.Join policy) list f e = cc
+source_stream node (inner (spec.Session gap agg of) policy) list f e = cc
+source_stream node (inner spec.Except policy) list f e = cc
 source_stream node (sink file) list f e = cc
 
 pub sink_stream : (node : Node) (text : VertexText) (list : List Element) (f : ℕ → List Element) → spec_of_vertex text ≡ None → (op_of_vertex text ≡ op.Source → ⊥)
@@ -67,6 +69,8 @@ computable (spec.Window size hop agg of) h = record {
   whole = h.multiple;
 }
 computable spec.Join h = tt
+computable (spec.Session gap agg of) h = record { least = h.least_of; most = h.most_of }
+computable spec.Except h = tt
 
 -- what arrives from inputs that may arrive
 

@@ -114,6 +114,8 @@ some_input (inner (spec.Select test a b c d) policy) role node s e h = h.inputs.
 some_input (inner spec.Union policy) role node s e h = let least = h.inputs.least_of in omega (arith, least)
 some_input (inner (spec.Window size hop agg of) policy) role node s e h = h.inputs.least_of
 some_input (inner spec.Join policy) role node s e h = let least = h.inputs.least_of in omega (arith, least)
+some_input (inner (spec.Session gap agg of) policy) role node s e h = h.inputs.least_of
+some_input (inner spec.Except policy) role node s e h = let least = h.inputs.least_of in omega (arith, least)
 some_input (sink file) role node s e h = cc
 
 takes_width : (text : VertexText) (role : Role) (node : Node) (s : Spec) → spec_of_vertex text ≡ Some s → IsVertex role node text → Takes (operator_of s) node.width

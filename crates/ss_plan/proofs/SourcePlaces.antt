@@ -24,6 +24,8 @@ is_source_op op.Select = false
 is_source_op op.Union = false
 is_source_op op.Window = false
 is_source_op op.Join = false
+is_source_op op.Session = false
+is_source_op op.Except = false
 is_source_op op.Sink = false
 
 same_source : (text : VertexText) → is_source text ≡ is_source_op (op_of_vertex text)
@@ -32,6 +34,8 @@ same_source (inner (spec.Select test a b c d) policy) = refl
 same_source (inner spec.Union policy) = refl
 same_source (inner (spec.Window size hop agg of) policy) = refl
 same_source (inner spec.Join policy) = refl
+same_source (inner (spec.Session gap agg of) policy) = refl
+same_source (inner spec.Except policy) = refl
 same_source (sink file) = refl
 
 next_by : (texts : List VertexText) (v : ℕ) (b : Bool) → v < length texts → is_source (get_or texts v (sink [])) ≡ b

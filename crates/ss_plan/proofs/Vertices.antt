@@ -120,6 +120,8 @@ takes (spec.Window size hop agg of) role node policy h =
     let long = window.size_of.most_of in
     (omega (arith, least, most, inputs_count node), low, omega (arith, high, long))
 takes spec.Join role node policy h = let least = h.inputs.least_of in let most = h.inputs.most_of in omega (arith, least, most, inputs_count node)
+takes (spec.Session gap agg of) role node policy h = let least = h.inputs.least_of in let most = h.inputs.most_of in let gap_in = h.sound.0 in let low = gap_in.least_of in let high = gap_in.most_of in (omega (arith, least, most, inputs_count node), low, omega (arith, high))
+takes spec.Except role node policy h = let least = h.inputs.least_of in let most = h.inputs.most_of in omega (arith, least, most, inputs_count node)
 
 may_stand : (nodes : List Node) (v : ℕ) (role : Role) (node : Node) (text : VertexText) (list : List Element)
     → IsLinkedAt nodes v node → IsVertex role node text → (is_source text ≡ true → Whole list × AllSourceTimes list)

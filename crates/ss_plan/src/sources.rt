@@ -56,6 +56,8 @@ pub(crate) fn is_source(job: &Job, v: u32) -> bool
         Op::Union => false,
         Op::Window => false,
         Op::Join => false,
+        Op::Session => false,
+        Op::Except => false,
         Op::Sink => false,
     }
 }

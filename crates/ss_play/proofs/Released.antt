@@ -25,6 +25,8 @@ is_no_source (spec.Select test a b c d) e = absurd cc
 is_no_source spec.Union e = absurd cc
 is_no_source (spec.Window size hop agg of) e = absurd cc
 is_no_source spec.Join e = absurd cc
+is_no_source (spec.Session gap agg of) e = absurd cc
+is_no_source spec.Except e = absurd cc
 
 -- a source with a file is one with this file where it is the same
 source_with : (x : VertexText) (file name : List ℕ) → op_of_vertex x ≡ op.Source → file_of_vertex x ≡ Some file

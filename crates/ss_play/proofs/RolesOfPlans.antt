@@ -29,6 +29,8 @@ kind_by_text node (inner (spec.Select test a b c d) policy) list = refl
 kind_by_text node (inner spec.Union policy) list = refl
 kind_by_text node (inner (spec.Window size hop agg of) policy) list = refl
 kind_by_text node (inner spec.Join policy) list = refl
+kind_by_text node (inner (spec.Session gap agg of) policy) list = refl
+kind_by_text node (inner spec.Except policy) list = refl
 kind_by_text node (sink file) list = refl
 
 replicas_by_text : (role : Role) (text : VertexText) → HasReplicas text role.replicas → (policy_with role text).replicas ≡ role.replicas

@@ -18,6 +18,8 @@ op_text op.Select = codes "select"
 op_text op.Union = codes "union"
 op_text op.Window = codes "window"
 op_text op.Join = codes "join"
+op_text op.Session = codes "session"
+op_text op.Except = codes "except"
 op_text op.Sink = codes "sink"
 
 -- the name of a vertex

@@ -115,6 +115,8 @@ fn put_op(op: Op, out: &mut Vec<u8>) -> Result<(), Memory>
         Op::Union => put(out, &[b"union"]),
         Op::Window => put(out, &[b"window"]),
         Op::Join => put(out, &[b"join"]),
+        Op::Session => put(out, &[b"session"]),
+        Op::Except => put(out, &[b"except"]),
         Op::Sink => put(out, &[b"sink"]),
     }
 }

@@ -90,6 +90,7 @@ fn key_of(field: FieldName) -> &'static [u8]
         FieldName::D => b"d",
         FieldName::Size => b"size",
         FieldName::Hop => b"hop",
+        FieldName::Gap => b"gap",
         FieldName::Agg => b"agg",
         FieldName::Of => b"of",
         FieldName::Recover => b"recover",

@@ -98,6 +98,8 @@ kind_by_text node (inner (spec.Select test a b c d) policy) list = refl
 kind_by_text node (inner spec.Union policy) list = refl
 kind_by_text node (inner (spec.Window size hop agg of) policy) list = refl
 kind_by_text node (inner spec.Join policy) list = refl
+kind_by_text node (inner (spec.Session gap agg of) policy) list = refl
+kind_by_text node (inner spec.Except policy) list = refl
 kind_by_text node (sink file) list = refl
 
 within_job : (job : JobText) → IsJob job → (v : ℕ) (text : VertexText) → slice_get job.vertices v ≡ Some text → v < length job.graph

@@ -126,8 +126,8 @@ fn first_frame(alloc: Global, v: u32, spec: &Spec, width: u32) -> Result<Frame, 
 {
     let image = match spec {
         Spec::Select { .. } | Spec::Union => Vec::new(alloc),
-        Spec::Window { .. } => Vec::from_slice(alloc, &[0; 4])?,
-        Spec::Join => Vec::from_slice(alloc, &[0; 8])?,
+        Spec::Window { .. } | Spec::Session { .. } => Vec::from_slice(alloc, &[0; 4])?,
+        Spec::Join | Spec::Except => Vec::from_slice(alloc, &[0; 8])?,
     };
     Ok(Frame {
         v,
@@ -150,5 +150,7 @@ fn op_number(spec: &Spec) -> u8
         Spec::Union => 2,
         Spec::Window { .. } => 3,
         Spec::Join => 4,
+        Spec::Session { .. } => 5,
+        Spec::Except => 6,
     }
 }

@@ -61,12 +61,16 @@ computable (spec.Window size hop agg of) h = record {
   whole = h.multiple;
 }
 computable spec.Join h = tt
+computable (spec.Session gap agg of) h = record { least = h.least_of; most = h.most_of }
+computable spec.Except h = tt
 
 some_input : (s : Spec) (role : Role) (node : Node) (policy : Policy) → IsVertex role node (inner s policy) → 1 ≤ node.width
 some_input (spec.Select test a b c d) role node policy h = h.inputs.least_of
 some_input spec.Union role node policy h = let least = h.inputs.least_of in omega (arith, least)
 some_input (spec.Window size hop agg of) role node policy h = h.inputs.least_of
 some_input spec.Join role node policy h = let least = h.inputs.least_of in omega (arith, least)
+some_input (spec.Session gap agg of) role node policy h = h.inputs.least_of
+some_input spec.Except role node policy h = let least = h.inputs.least_of in omega (arith, least)
 
 reads_same : (x : Vertex) (s : Spec) (ins : List ℕ) → x ≡ Inner (operator_of s) ins → x ≡ Inner (operator_of s) (reads x)
 reads_same x s ins e = e ∙ ap (Inner (operator_of s)) (sym (ap reads e))

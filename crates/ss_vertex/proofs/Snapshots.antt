@@ -21,7 +21,7 @@ use Rattle.ss_image.specs.Images.{image_of}
 use Rattle.ss_job.specs.JobText.{spec_of}
 use Rattle.ss_meaning.specs.Bound.{bound}
 use Rattle.ss_meaning.specs.Emit.{output}
-use Rattle.ss_meaning.specs.Entries.{Entries, NoEntries, WindowEntries, JoinRows, entries_after, entry_count}
+use Rattle.ss_meaning.specs.Entries.{Entries, NoEntries, WindowEntries, JoinRows, SessionEntries, entries_after, entry_count}
 use Rattle.ss_meaning.specs.Inputs.{bounds, counts, least_bound}
 use Rattle.ss_meaning.specs.Jobs.{IsBefore, Takes}
 use Rattle.ss_meaning.specs.Laws.{MeaningIsWhole, MeaningIsEarly, ArrivalsFollow, PositionsAddUp, LowIsTheLeastBound}
@@ -75,11 +75,13 @@ few_entries : (es : Entries) → AreFew es → entry_count es < 2 ^ 32
 few_entries NoEntries h = omega arith
 few_entries (WindowEntries es) h = let few = h.0 in omega arith
 few_entries (JoinRows left right) h = omega arith
+few_entries (SessionEntries es) h = let few = h.0 in omega arith
 
 few_rows : (es : Entries) → AreFew es → CountFew es
 few_rows NoEntries h = tt
 few_rows (WindowEntries es) h = h.1
 few_rows (JoinRows left right) h = tt
+few_rows (SessionEntries es) h = h.1
 
 pub few_held : EntriesAreFew → (plan : PlanText) → IsPlan plan → (v n : ℕ) (s : Spec) → spec_of plan.job v ≡ Some s → IsWithin plan v n
     → entry_count (entries_at plan v n s) < 2 ^ 32

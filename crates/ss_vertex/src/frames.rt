@@ -13,6 +13,8 @@ pub(crate) fn op_number(spec: &Spec) -> u8
         Spec::Union => 2,
         Spec::Window { .. } => 3,
         Spec::Join => 4,
+        Spec::Session { .. } => 5,
+        Spec::Except => 6,
     }
 }
 

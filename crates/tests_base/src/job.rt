@@ -88,7 +88,10 @@ fn shown_spec(alloc: Global, spec: Option<&Spec>) -> Result<String, AllocError> 
         Some(Spec::Window { size, hop, agg, of }) => {
             format!(in alloc; "size {size}, hop {hop}, {agg:?} of {of:?}, ")
         }
-        Some(Spec::Union | Spec::Join) | None => format!(in alloc; ""),
+        Some(Spec::Session { gap, agg, of }) => {
+            format!(in alloc; "gap {gap}, {agg:?} of {of:?}, ")
+        }
+        Some(Spec::Union | Spec::Join | Spec::Except) | None => format!(in alloc; ""),
     }
 }
 

@@ -93,6 +93,8 @@ source_text node (inner (spec.Select test a b c d) policy) list h = cc
 source_text node (inner spec.Union policy) list h = cc
 source_text node (inner (spec.Window size hop agg of) policy) list h = cc
 source_text node (inner spec.Join policy) list h = cc
+source_text node (inner (spec.Session gap agg of) policy) list h = cc
+source_text node (inner spec.Except policy) list h = cc
 source_text node (sink file) list h = cc
 
 pub source_is : VerticesByNumber → (plan : PlanText) → IsPlan plan → (v : ℕ) → v < length plan.job.vertices → op_of plan.job v ≡ Some op.Source

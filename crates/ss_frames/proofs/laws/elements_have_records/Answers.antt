@@ -12,4 +12,5 @@ returns c =
         keeps = c.merge_keeps_each_input.ensures.all;
       };
       made = c.meaning_is_made_of_the_inputs.ensures;
+      sessions = c.sessions_are_of_rows.ensures;
     })

@@ -17,6 +17,7 @@ returns-clause-codes c =
     (record {
       window = c.images_have_lengths.ensures.window;
       join = c.images_have_lengths.ensures.short;
+      session = c.images_have_lengths.ensures.session;
       frame = c.frames_have_lengths.ensures;
     })
     c.entries_are_few.ensures
