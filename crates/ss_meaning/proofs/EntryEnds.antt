@@ -1,12 +1,11 @@
 -- Ends and entries above a bound, and those of them that a higher bound reaches.
-use Rattle.std.proofs.Common.{◌≡◌, ℕ, ◌+◌, ◌<◌, ◌≤◌, ◌==◌, Bool, true, false, cond, ◌&&◌, nat_lt, nat_le, List, [], ◌∷◌, ◌++◌, map, filter, refl, sym, ap, ◌∙◌, arith, ltb-true, ltb-false, lt-ltb, le-ltb, eqb-true}
-use Rattle.std.proofs.lemmas.Bool.{and_parts}
+use Rattle.std.proofs.Common.{◌≡◌, ℕ, ◌<◌, ◌≤◌, ◌==◌, Bool, true, false, cond, ◌&&◌, nat_lt, nat_le, List, [], ◌∷◌, ◌++◌, map, filter, refl, sym, ap, ◌∙◌, arith, ltb-true, lt-ltb, eqb-true}
 use Rattle.std.proofs.lemmas.List.{map-append}
 use Rattle.std.proofs.lemmas.List.Elements.{filter-append}
 use Rattle.std.specs.List.{AllByRecursion, flat_map}
 use Rattle.ss_elem.specs.declared.element.Event.{Event}
 use Rattle.ss_meaning.specs.Window.{Window, ends_of, put_once, rising, window_ends, window_keys, window_row}
-use Rattle.ss_meaning.specs.Entries.{WindowEntry, window_entry, ends_above, window_entries}
+use Rattle.ss_meaning.specs.Entries.{WindowEntry, window_entry, ends_above}
 use Rattle.ss_meaning.specs.EntryLists.{row_of_entry}
 use Rattle.ss_meaning.specs.EntryLaws.{EntriesAfterRise, RowsAreOfEntries}
 use Rattle.ss_meaning.proofs.Each.{each_weaker, each-filter}

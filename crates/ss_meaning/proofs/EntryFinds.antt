@@ -1,10 +1,10 @@
 -- Entries in order are known by what is found among them.
-use Rattle.std.proofs.Common.{◌≡◌, ℕ, ◌+◌, ◌<◌, ◌≤◌, ◌==◌, ◌⊎◌, Bool, true, false, cond, ◌&&◌, ◌||◌, nat_lt, ℤ, List, [], ◌∷◌, Option, Some, None, refl, sym, ap, ◌∙◌, inl, inr, arith, ltb-true, ltb-false, eqb-true, eq-eqb, ne_eqb}
-use Rattle.std.proofs.lemmas.Bool.{and_parts, and_from, and_left, and_cases, or_parts, or_cases, eqb-false, cases_order, cond-true, cond-false}
+use Rattle.std.proofs.Common.{◌≡◌, ℕ, ◌<◌, ◌==◌, ◌⊎◌, Bool, true, false, cond, ◌&&◌, ℤ, List, [], ◌∷◌, Option, Some, None, refl, sym, ap, ◌∙◌, inl, inr, arith, eqb-true, eq-eqb, ne_eqb}
+use Rattle.std.proofs.lemmas.Bool.{and_parts, and_from, cases_order, cond-true, cond-false}
 use Rattle.std.proofs.lemmas.Option.{same_Some}
 use Rattle.std.specs.List.{AllByRecursion}
 use Rattle.ss_meaning.specs.Entries.{WindowEntry}
-use Rattle.ss_meaning.specs.EntryLists.{IsBehind, AreInOrder, is_before, is_of, single_entry, grown_entry, put_value, put_values}
+use Rattle.ss_meaning.specs.EntryLists.{IsBehind, AreInOrder, is_of}
 use Rattle.ss_meaning.proofs.Each.{each_weaker}
 
 -- what an entry tells of its end and key

@@ -1,18 +1,18 @@
 -- What is found among the entries of a window is what its rows say.
-use Rattle.std.proofs.Common.{◌≡◌, ℕ, zero, suc, ◌+◌, ◌*◌, ◌/◌, ◌<◌, ◌≤◌, ◌==◌, ◌⊎◌, Bool, true, false, cond, ◌&&◌, ◌||◌, nat_lt, nat_le, ℤ, List, [], ◌∷◌, ◌++◌, length, map, filter, Option, Some, None, refl, sym, ap, subst, ◌∙◌, inl, inr, ⊎_elim, arith, ltb-true, eqb-true, eq-eqb}
+use Rattle.std.proofs.Common.{◌≡◌, ℕ, ◌*◌, ◌/◌, ◌≤◌, ◌==◌, ◌⊎◌, Bool, true, false, cond, ◌&&◌, ◌||◌, nat_lt, ℤ, List, [], ◌∷◌, ◌++◌, map, filter, Option, Some, None, refl, sym, ap, subst, ◌∙◌, inl, inr, arith, eqb-true, eq-eqb}
 use Rattle.std.proofs.lemmas.Bool.{and_parts, and_from}
 use Rattle.std.proofs.lemmas.Map.Views.{any-filter_same}
 use Rattle.std.proofs.lemmas.List.Folds.{list_any-append}
 use Rattle.std.proofs.Math.Nat.{mul-div_cancel_left}
 use Rattle.std.specs.List.{list_any, flat_map}
 use Rattle.ss_elem.specs.declared.element.Event.{Event}
-use Rattle.ss_meaning.specs.Window.{Window, belongs, window_members, ends_of, rising, window_keys}
+use Rattle.ss_meaning.specs.Window.{Window, belongs, ends_of, rising, window_keys}
 use Rattle.ss_meaning.specs.Entries.{WindowEntry, window_entry, ends_above, window_entries}
 use Rattle.ss_meaning.specs.EntryLists.{is_of}
 use Rattle.ss_meaning.proofs.Ends.{In, from_rising, in_rising, from_ends_of, in_ends_of}
 use Rattle.ss_meaning.proofs.EntryFinds.{told, found}
 use Rattle.ss_meaning.proofs.EntryPuts.{among}
-use Rattle.ss_meaning.proofs.EntryEnds.{entries_at, filter_alike}
+use Rattle.ss_meaning.proofs.EntryEnds.{entries_at}
 
 -- tests, and tests on lists
 
@@ -57,7 +57,7 @@ among_from n [] h = absurd h
 among_from n (m ∷ ms) (inl e) = ap (λ b. b || among n ms) (eq-eqb m n e)
 among_from n (m ∷ ms) (inr h) = ap (λ b. m == n || b) (among_from n ms h) ∙ or_true (m == n)
 
-among-rising : (n : ℕ) (ns : List ℕ) → among n (rising ns) ≡ among n ns
+pub among-rising : (n : ℕ) (ns : List ℕ) → among n (rising ns) ≡ among n ns
 among-rising n ns =
     same_tests (among n (rising ns)) (among n ns) (λ h. among_from n ns (from_rising ns n (from_among n (rising ns) h)))
     (λ h. among_from n (rising ns) (in_rising ns n (from_among n ns h)))

@@ -1,12 +1,12 @@
 -- What is found where a value was put, and that it is put in its place.
-use Rattle.std.proofs.Common.{◌≡◌, ℕ, ◌+◌, ◌<◌, ◌≤◌, ◌==◌, ◌⊎◌, Bool, true, false, cond, ◌&&◌, ◌||◌, nat_lt, ℤ, List, [], ◌∷◌, Option, Some, None, refl, sym, ap, ◌∙◌, inl, inr, arith, ltb-true, ltb-false, eqb-true, eq-eqb}
-use Rattle.std.proofs.lemmas.Bool.{and_parts, and_from, and_cases, or_parts, or_cases, eqb-false, cases_order, cond-true, cond-false}
+use Rattle.std.proofs.Common.{◌≡◌, ℕ, ◌+◌, ◌<◌, ◌==◌, ◌⊎◌, Bool, true, false, cond, ◌&&◌, ◌||◌, nat_lt, ℤ, List, [], ◌∷◌, Option, Some, None, refl, sym, ap, ◌∙◌, inl, inr, arith, ltb-true, ltb-false, eqb-true}
+use Rattle.std.proofs.lemmas.Bool.{and_parts, and_cases, or_parts, or_cases, eqb-false, cases_order, cond-true, cond-false}
 use Rattle.std.specs.List.{AllByRecursion, list_any}
 use Rattle.ss_meaning.specs.Entries.{WindowEntry}
 use Rattle.ss_meaning.specs.EntryLists.{IsBehind, AreInOrder, is_before, is_of, single_entry, grown_entry, put_value, put_values}
 use Rattle.ss_meaning.specs.EntryLaws.{PutKeepsOrder}
 use Rattle.ss_meaning.proofs.Ends.{IsRising}
-use Rattle.ss_meaning.proofs.EntryFinds.{told, found, is_of-behind, found-behind, all_behind}
+use Rattle.ss_meaning.proofs.EntryFinds.{told, found, found-behind, all_behind}
 
 -- whether a number is among others
 abbrev pub among : ℕ → List ℕ → Bool
@@ -124,7 +124,7 @@ found-put at of join key v w (e ∷ es) h =
     by_tests false false false tt' pp qq rest =
         cond-false (w == at && key == of) (Some (told (single_entry w key v))) (found at of (e ∷ es)) tt'
 
-among-above : (n : ℕ) (ns : List ℕ) → AllByRecursion (λ m. n < m) ns → among n ns ≡ false
+pub among-above : (n : ℕ) (ns : List ℕ) → AllByRecursion (λ m. n < m) ns → among n ns ≡ false
 among-above n [] h = refl
 among-above n (m ∷ ms) h = by_test (m == n) refl (among-above n ms h.1)
   where

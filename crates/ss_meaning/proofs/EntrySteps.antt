@@ -3,10 +3,9 @@ use Rattle.std.proofs.Common.{◌≡◌, ℕ, zero, suc, ◌+◌, ◌*◌, ◌<�
 use Rattle.std.proofs.lemmas.Bool.{and_from}
 use Rattle.std.proofs.lemmas.List.{append-nil, map-append, length_push}
 use Rattle.std.proofs.lemmas.List.Elements.{filter-append, All-from_recursion}
-use Rattle.std.proofs.lemmas.List.Folds.{list_any-append}
 use Rattle.std.specs.List.{AllByRecursion, list_any, flat_map}
 use Rattle.ss_elem.specs.declared.element.Event.{Event}
-use Rattle.ss_meaning.specs.Window.{Window, belongs, window_members, multiples, ends_of, rising, window_keys}
+use Rattle.ss_meaning.specs.Window.{Window, belongs, window_members, multiples, ends_of, window_keys}
 use Rattle.ss_meaning.specs.Entries.{WindowEntry, window_entry, ends_above, window_entries}
 use Rattle.ss_meaning.specs.EntryLists.{IsBehind, AreInOrder, put_values}
 use Rattle.ss_meaning.specs.EntryLaws.{GrowsBy, EntriesAfterRow, IsEntryOf, EntriesCountRows, EntriesAreInOrder}
@@ -15,7 +14,7 @@ use Rattle.ss_meaning.proofs.Ends.{In, IsRising, rising-rising, from_rising, fro
 use Rattle.ss_meaning.proofs.EntryFinds.{told, found, same_entries}
 use Rattle.ss_meaning.proofs.EntryPuts.{among, joined, puts_keep_order, found-puts}
 use Rattle.ss_meaning.proofs.EntryEnds.{entries_at}
-use Rattle.ss_meaning.proofs.EntryLooks.{is_multiple, among-filter, among-ends_of, has_row, said, found-entries}
+use Rattle.ss_meaning.proofs.EntryLooks.{is_multiple, among-filter, among-ends_of, said, found-entries}
 
 four : (a b c d : Bool) → ((a && (b && c)) && d) ≡ ((a && b) && (c && d))
 four true true true d = refl

@@ -27,3 +27,7 @@ pub mod ExceptSides
 pub mod ExceptEnds
 pub mod InputBounds
 pub mod Sorting
+pub mod SessionPuts
+pub mod SessionSteps
+pub mod SessionKeys
+pub mod SessionRises

@@ -1,5 +1,5 @@
 -- Which rows an operator gives: each starts at or above Low, has a span, and ends below a limit.
-use Rattle.std.proofs.Common.{◌≡◌, ℕ, zero, suc, ◌+◌, ◌-◌, ◌*◌, ◌/◌, ◌^◌, ◌<◌, ◌≤◌, ◌==◌, Bool, true, false, cond, ◌&&◌, nat_lt, nat_le, List, [], ◌∷◌, ◌++◌, map, filter, flat_map, Some, refl, inl, inr, ◌⊎◌, arith, ltb-true, mul-le-mul_left}
+use Rattle.std.proofs.Common.{◌≡◌, ℕ, zero, suc, ◌+◌, ◌-◌, ◌*◌, ◌/◌, ◌^◌, ◌<◌, ◌≤◌, ◌==◌, Bool, true, false, cond, ◌&&◌, nat_lt, List, [], ◌∷◌, ◌++◌, map, filter, flat_map, Some, refl, inl, inr, ◌⊎◌, arith, ltb-true, mul-le-mul_left}
 use Rattle.std.proofs.lemmas.Bool.{and_parts}
 use Rattle.std.proofs.Math.Nat.{div-mul-le_self}
 use Rattle.std.proofs.lemmas.Nat.{le-div}
@@ -11,7 +11,7 @@ use Rattle.ss_elem.specs.declared.element.Element.TheVariants.{Row, Cti, End}
 use Rattle.ss_meaning.specs.Bound.{bound_after, bound, row_of, rows}
 use Rattle.ss_meaning.specs.Merge.{Arrival, from_input}
 use Rattle.ss_meaning.specs.Low.{low}
-use Rattle.ss_meaning.specs.Window.{Window, multiples, ends_of, put_once, rising, window_ends, window_keys, window_row, window_rows}
+use Rattle.ss_meaning.specs.Window.{Window, multiples, ends_of, window_ends, window_keys, window_row, window_rows}
 use Rattle.ss_meaning.specs.Join.{matches, joined, joined_from, join_rows}
 use Rattle.ss_meaning.specs.Emit.{Kind, Select, Union, Hopping, Join, Session, Except, Selection, revalued, rows_at}
 use Rattle.ss_meaning.specs.Jobs.{IsBefore, Takes}

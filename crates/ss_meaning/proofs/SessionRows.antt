@@ -1,5 +1,5 @@
 -- The rows that a session window gives.
-use Rattle.std.proofs.Common.{◌≡◌, ℕ, ◌+◌, ◌<◌, ◌≤◌, ◌==◌, Bool, true, false, cond, nat_lt, nat_le, List, [], ◌∷◌, map, filter, refl, arith, eqb-true}
+use Rattle.std.proofs.Common.{◌≡◌, ℕ, ◌+◌, ◌<◌, ◌≤◌, ◌==◌, Bool, true, false, cond, nat_lt, nat_le, List, [], ◌∷◌, map, filter, arith, eqb-true}
 use Rattle.std.specs.List.{AllByRecursion}
 use Rattle.ss_elem.specs.declared.element.Event.{Event}
 use Rattle.ss_meaning.specs.Window.{rising}

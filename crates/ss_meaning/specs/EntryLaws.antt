@@ -1,5 +1,5 @@
 -- What is true of the entries of every window.
-use Rattle.std.specs.Prelude.{◌≡◌, ℕ, ◌+◌, ◌*◌, ◌<◌, ◌≤◌, nat_lt, nat_le, ℤ, ◌+ℤ◌, List, [], ◌∷◌, ◌++◌, length, map}
+use Rattle.std.specs.Prelude.{◌≡◌, ℕ, ◌*◌, ◌<◌, ◌≤◌, nat_lt, nat_le, ℤ, ◌+ℤ◌, List, [], ◌∷◌, ◌++◌, length, map}
 use Rattle.std.specs.Prelude.{filter, All}
 use Rattle.std.specs.Int.{int_min, int_max}
 use Rattle.ss_elem.specs.declared.element.Event.{Event}

@@ -20,6 +20,9 @@ pub mod Jobs
 pub mod Laws
 pub mod EntryLaws
 pub mod JoinLaws
+pub mod SessionLists
+pub mod SessionLaws
+pub mod SessionExamples
 pub mod SessionRows
 pub mod ExceptLaws
 pub mod ExceptExamples

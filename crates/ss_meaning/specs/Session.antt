@@ -1,5 +1,5 @@
 -- What a session window gives.
-use Rattle.std.specs.Prelude.{ℕ, ◌+◌, ◌==◌, nat_lt, nat_le, Bool, ◌&&◌, if◌then◌else◌, ℤ, pos, List, [], ◌∷◌, length}
+use Rattle.std.specs.Prelude.{ℕ, ◌+◌, ◌==◌, nat_lt, nat_le, ◌&&◌, if◌then◌else◌, ℤ, pos, List, [], ◌∷◌, length}
 use Rattle.std.specs.Prelude.{map, filter, flat_map}
 use Rattle.ss_elem.specs.declared.element.Event.{Event}
 use Rattle.ss_meaning.specs.Window.{clamped, rising}
