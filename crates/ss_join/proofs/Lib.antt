@@ -10,3 +10,5 @@ pub mod Spellings
 pub mod ReadAgain
 pub mod StateImages
 pub mod OneSpelling
+pub mod Ended
+pub mod EarlyRows

@@ -48,3 +48,13 @@ StatesAreReadAgainAs kind =
 -- so it is of a join
 abbrev pub StatesAreReadAgain : Type 0
 StatesAreReadAgain = StatesAreReadAgainAs Join
+
+-- the times of a row are below 2^63
+pub record HasEarlyTimes (row : Event) : Type 0 where
+  pub start : row.start < 2 ^ 63
+  pub end : row.end < 2 ^ 63
+
+-- so are those of the left rows that an image says
+abbrev pub ImagesHaveEarlyRows : Type 0
+ImagesHaveEarlyRows =
+    (bounds bytes : List ℕ) (sides : Sides) → image_read bounds bytes ≡ Ok sides → All HasEarlyTimes sides.left

@@ -3,7 +3,7 @@ ghost use Rattle.ss_join.specs.ImageExamples.{OneByteFewer, EndedRow};
 ghost use Rattle.ss_join.specs.ImageExamples.{WideRowsSpelled, WideRowsRead, WideWithoutNeed, NeitherForm, NoRowsRead};
 ghost use Rattle.ss_join.specs.ImageExamples.{WideRowEnded, NarrowAgain};
 ghost use Rattle.ss_join.specs.ImageLaws.{SidesAreReadAgain, NarrowImagesAreRead, StatesAreReadAgain};
-ghost use Rattle.ss_join.specs.ImageLaws.{StatesAreReadAgainAs};
+ghost use Rattle.ss_join.specs.ImageLaws.{StatesAreReadAgainAs, ImagesHaveEarlyRows};
 ghost use Rattle.ss_meaning.specs.Emit.{Except};
 
 use ss_image::numbers_are_read_again;
@@ -38,3 +38,8 @@ pub fn images_are_read_again()
 {
     numbers_are_read_again();
 }
+
+/// The rows that an image says have times below 2^63.
+pub fn images_have_early_rows()
+    ensures { ImagesHaveEarlyRows }
+{}

@@ -15,7 +15,7 @@ const WIDE_LEN: usize = 64;
 const TOP_TIME: u64 = 1 << 63;
 
 /// The left and the right rows whose image the bytes are.
-pub(crate) fn read_image(
+pub fn read_image(
     alloc: Global,
     bounds: [u64; 8],
     bytes: &[u8],

@@ -12,7 +12,7 @@ use std::alloc::AllocError;
 const COUNTS_LEN: usize = 8;
 
 /// Appends the image of the two sides. Its room is reserved first, so that it is appended whole or not at all.
-pub(crate) fn put_image(
+pub fn put_image(
     out: &mut Vec<u8>,
     left: &[Event],
     right: &[Event],

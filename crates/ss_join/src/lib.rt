@@ -1,4 +1,4 @@
-//! Temporal joins, one element at a time.
+//! Temporal joins, one element at a time, and what joins by absence share with them: the rows of a side and their images.
 #![tactic(auto)]
 
 mod held;
@@ -9,7 +9,13 @@ mod join;
 mod pairs;
 mod side;
 
-pub use image_laws::{image_examples, images_are_read_again, wide_image_examples};
+pub use image_laws::{
+    image_examples, images_are_read_again, images_have_early_rows, wide_image_examples,
+};
+pub use image_reader::read_image;
+pub use image_writer::put_image;
 pub use join::Join;
+pub use pairs::{count, matches};
+pub use side::Side;
 pub use ss_image::ImageFault;
 pub use std::alloc::AllocError as Memory;

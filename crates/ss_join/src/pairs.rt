@@ -6,7 +6,7 @@ use crate::side::Side;
 use ss_elem::{Element, Event, Out};
 
 /// Whether two rows have one key and a time in common.
-fn matches(x: &Event, y: &Event) -> bool
+pub fn matches(x: &Event, y: &Event) -> bool
     ensures { result ≡ matches x.now y.now }
 {
     x.key == y.key && x.start < y.end && y.start < x.end
@@ -53,7 +53,7 @@ pub(crate) fn give(input: u32, row: &Event, others: &Side, out: &mut Out)
 }
 
 /// How many of these rows of the other input a row joins.
-pub(crate) fn count(row: &Event, others: &Side) -> u64
+pub fn count(row: &Event, others: &Side) -> u64
     ensures given { (input : ℕ) → result ≡ length (joined_elements input row.now others.now) }
     ensures few { result < 2 ^ 63 }
 {

@@ -1,4 +1,5 @@
-ghost use Rattle.std.specs.Prelude.{◌≡◌, ◌^◌, ◌<◌, ◌==◌, ◌++◌, [], ◌∷◌, length, nat_eq, filter, OnOk, OnErr, IfOk};
+ghost use Rattle.std.specs.Prelude.{◌≡◌, ◌^◌, ◌<◌, ◌==◌, ◌++◌, [], ◌∷◌, length, nat_eq, nat_le, filter, false, OnOk, OnErr};
+ghost use Rattle.std.specs.Prelude.{IfOk};
 ghost use Rattle.std.specs.Map.{values_of};
 ghost use Rattle.ss_meaning.specs.Entries.{rows_ending_above};
 ghost use Rattle.std.specs.Set.{distinct_count, is_member};
@@ -12,13 +13,13 @@ use std::collections::btree_map::Range;
 use std::collections::{BTreeMap, BTreeSet};
 use std::marker::Model;
 
-/// The rows that a join remembers of one input, seen in the order of their arrival.
+/// The rows that an operator remembers of one input, seen in the order of their arrival.
 ///
 /// They stand by their keys, and at one key by the numbers of their arrival, so that a row of the other input meets
 /// those of its key alone. Their ends stand in an order of their own, so that those which a bound reaches stand in
 /// front.
 #[derive(Drop)]
-pub(crate) struct Side {
+pub struct Side {
     alloc: Global,
     rows: Rows,
     ends: Ends,
@@ -39,7 +40,7 @@ impl Model for Side {
 
 impl Side {
     /// A side without rows, which takes no memory.
-    pub(crate) fn new(alloc: Global) -> Side
+    pub fn new(alloc: Global) -> Side
         ensures { result ≡ [] }
     {
         Side {
@@ -51,7 +52,7 @@ impl Side {
     }
 
     /// A side with these rows, which arrived in this order.
-    pub(crate) fn of_rows(alloc: Global, list: &[Event]) -> Result<Side, AllocError>
+    pub fn of_rows(alloc: Global, list: &[Event]) -> Result<Side, AllocError>
         ensures { IfOk result (λ side. side ≡ list.now) }
     {
         let mut rows = BTreeMap::new(alloc);
@@ -68,7 +69,7 @@ impl Side {
     }
 
     /// The rows in the order of their arrival.
-    pub(crate) fn to_rows(&self) -> Result<Vec<Event>, AllocError>
+    pub fn to_rows(&self) -> Result<Vec<Event>, AllocError>
         ensures { IfOk result (λ list. list.items ≡ self.now) }
     {
         let sorted = by_number(self.alloc, &self.rows)?;
@@ -76,7 +77,7 @@ impl Side {
     }
 
     /// How many rows there are.
-    pub(crate) fn len(&self) -> usize
+    pub fn len(&self) -> usize
         ensures len { result ≡ length self.now }
         ensures few { result < 2 ^ 63 }
     {
@@ -84,7 +85,7 @@ impl Side {
     }
 
     /// Appends a row.
-    pub(crate) fn push(&mut self, row: &Event) -> Result<(), AllocError>
+    pub fn push(&mut self, row: &Event) -> Result<(), AllocError>
         ensures ok { OnOk result (self.new ≡ self.old ++ row.now ∷ []) }
         ensures err { OnErr result (self.new ≡ self.old) }
     {
@@ -103,7 +104,7 @@ impl Side {
     }
 
     /// Forgets the rows that end at `bound` or before it.
-    pub(crate) fn forget(&mut self, bound: u64)
+    pub fn forget(&mut self, bound: u64)
         ensures { self.new ≡ rows_ending_above bound self.old }
     {
         while is_first_reached(&self.ends, bound) {
@@ -113,8 +114,29 @@ impl Side {
         }
     }
 
+    /// Whether a row ends at `bound` or before it; where none does, there is nothing to forget.
+    pub fn has_ended(&self, bound: u64) -> bool
+        ensures { result ≡ false → rows_ending_above bound self.now ≡ self.now }
+    {
+        is_first_reached(&self.ends, bound)
+    }
+
+    /// How many rows end at `bound` or before it.
+    pub fn count_ended(&self, bound: u64) -> u64
+        ensures count { result ≡ length (filter (λ row. nat_le row.end bound) self.now) }
+        ensures few { result < 2 ^ 63 }
+    {
+        let mut count = 0;
+        for row in self.rows.values() {
+            if row.end <= bound {
+                count += 1;
+            }
+        }
+        count
+    }
+
     /// The rows of a key, in the order of their arrival.
-    pub(crate) fn of_key(&self, key: &Key) -> Range<'_, (Key, u64), Event>
+    pub fn of_key(&self, key: &Key) -> Range<'_, (Key, u64), Event>
         ensures rows { values_of result ≡ filter (λ row. key.now == row.key) self.now }
         ensures few { length result < 2 ^ 63 }
     {

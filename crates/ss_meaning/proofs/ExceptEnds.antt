@@ -2,8 +2,8 @@
 use Rattle.std.proofs.Common.{◌≡◌, ℕ, ◌<◌, ◌≤◌, Bool, true, false, ◌&&◌, nat_lt, nat_le, List, [], ◌∷◌, filter, refl, sym, ap, ◌∙◌}
 use Rattle.std.proofs.lemmas.Bool.{lt-leb, ltb-true}
 use Rattle.ss_elem.specs.declared.element.Event.{Event}
-use Rattle.ss_meaning.specs.ExceptLaws.{by_end, ReachedRowsAreGiven, NoneGivenWithoutRise}
-use Rattle.ss_meaning.proofs.ByTime.{by_ends}
+use Rattle.ss_meaning.specs.ExceptLaws.{by_end, ReachedRowsAreGiven, NoneGivenWithoutRise, EndedRowsAreCounted}
+use Rattle.ss_meaning.proofs.ByTime.{by_ends, length-by_time}
 use Rattle.ss_meaning.proofs.EntryEnds.{filter-filter, filter-dropped}
 
 pub reached_rows_are_given : ReachedRowsAreGiven
@@ -26,3 +26,6 @@ pub none_given_without_rise : NoneGivenWithoutRise
 none_given_without_rise rows bound =
     by_ends (λ (row : Event). row.end) (λ time. nat_lt bound time && nat_le time bound) rows
     ∙ ap by_end (none_kept rows (λ (row : Event). nat_lt bound row.end && nat_le row.end bound) (λ row. never bound row.end))
+
+pub ended_rows_are_counted : EndedRowsAreCounted
+ended_rows_are_counted rows bound = length-by_time (λ (row : Event). row.end) (filter (λ row. nat_le row.end bound) rows)

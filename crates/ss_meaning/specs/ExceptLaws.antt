@@ -1,5 +1,5 @@
 -- What is true of the left rows that a join by absence remembers, and of those that it gives.
-use Rattle.std.specs.Prelude.{◌≡◌, ℕ, ◌≤◌, nat_le, if◌then◌else◌, List, [], ◌∷◌, ◌++◌, filter}
+use Rattle.std.specs.Prelude.{◌≡◌, ℕ, ◌≤◌, nat_le, if◌then◌else◌, List, [], ◌∷◌, ◌++◌, length, filter}
 use Rattle.ss_elem.specs.declared.element.Event.{Event}
 use Rattle.ss_meaning.specs.ByTime.{by_time}
 use Rattle.ss_meaning.specs.Except.{is_alone, alone, ending_between}
@@ -44,3 +44,9 @@ ReachedRowsAreGiven =
 -- where it doesn't rise, none is given
 abbrev pub NoneGivenWithoutRise : Type 0
 NoneGivenWithoutRise = (rows : List Event) (bound : ℕ) → ending_between rows bound bound ≡ []
+
+-- as many as end up to the bound
+abbrev pub EndedRowsAreCounted : Type 0
+EndedRowsAreCounted =
+    (rows : List Event) (bound : ℕ)
+    → length (ending_up_to bound rows) ≡ length (filter (λ row. nat_le row.end bound) rows)

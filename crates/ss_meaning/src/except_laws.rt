@@ -1,7 +1,7 @@
 ghost use Rattle.ss_meaning.specs.ExceptExamples.{RowWithoutItsLike, RowsInOrderOfEnd, LateLeftRows};
 ghost use Rattle.ss_meaning.specs.ExceptExamples.{LonelyAndOpenRows};
 ghost use Rattle.ss_meaning.specs.ExceptLaws.{EndedRowsNeverMatch, LeftsAfterLeftRow, LeftsAfterRightRow};
-ghost use Rattle.ss_meaning.specs.ExceptLaws.{ReachedRowsAreGiven, NoneGivenWithoutRise};
+ghost use Rattle.ss_meaning.specs.ExceptLaws.{ReachedRowsAreGiven, NoneGivenWithoutRise, EndedRowsAreCounted};
 
 /// The left rows that a join by absence remembers follow from those that it remembered before, and so do those that it
 /// gives.
@@ -11,6 +11,7 @@ pub fn absent_rows_follow()
     ensures right { LeftsAfterRightRow }
     ensures given { ReachedRowsAreGiven }
     ensures none { NoneGivenWithoutRise }
+    ensures count { EndedRowsAreCounted }
 {}
 
 /// What joins by absence give and remember, on small sources.

@@ -3,12 +3,13 @@
 
 mod arrived;
 mod bounds;
-mod fault;
 mod excepts;
+mod fault;
 mod joins;
 mod laws;
 mod merging;
 mod needed;
+mod one_input;
 mod operating;
 mod plain_streams;
 mod plan;

@@ -15,7 +15,7 @@ use Rattle.ss_meaning.specs.Bound.{bound_after, bound_past, bound, row_of, rows}
 use Rattle.ss_meaning.specs.Merge.{Arrival, is_from, from_input}
 use Rattle.ss_meaning.specs.Low.{low}
 use Rattle.ss_meaning.specs.Window.{Window, ends_of, window_rows}
-use Rattle.ss_meaning.specs.Entries.{WindowEntry, Entries, NoEntries, WindowEntries, JoinRows, window_entries, entries_after}
+use Rattle.ss_meaning.specs.Entries.{WindowEntry, Entries, NoEntries, WindowEntries, JoinRows, SessionEntries, window_entries, entries_after}
 use Rattle.ss_meaning.specs.EntryLists.{put_values, row_of_entry}
 use Rattle.ss_meaning.specs.EntryLaws.{GrowsBy, AggregatesGrow, EntriesAfterRow, EntriesAfterRise, RowsAreOfEntries, EntriesCountRows}
 use Rattle.ss_window.specs.Held.{join_of}
@@ -45,6 +45,7 @@ entries_in : Entries → List WindowEntry
 entries_in NoEntries = []
 entries_in (WindowEntries es) = es
 entries_in (JoinRows left right) = []
+entries_in (SessionEntries es) = []
 
 pub same_list : (es fs : List WindowEntry) → WindowEntries es ≡ WindowEntries fs → es ≡ fs
 unfolding entries_in

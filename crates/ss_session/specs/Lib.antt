@@ -1,0 +1,4 @@
+pub mod States
+pub mod ImageTests
+pub mod ImageLaws
+pub mod ExceptStates
