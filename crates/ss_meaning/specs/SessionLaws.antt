@@ -1,11 +1,11 @@
 -- What is true of the sessions of every session window.
-use Rattle.std.specs.Prelude.{◌≡◌, ℕ, ◌<◌, ◌≤◌, nat_lt, nat_le, ◌&&◌, if◌then◌else◌, ℤ, ◌+ℤ◌, List, [], ◌∷◌, ◌++◌, length, map, filter, All}
+use Rattle.std.specs.Prelude.{◌≡◌, ℕ, ◌<◌, ◌≤◌, nat_lt, ℤ, ◌+ℤ◌, List, [], ◌∷◌, ◌++◌, length, map, filter, All}
 use Rattle.std.specs.Int.{int_min, int_max}
 use Rattle.ss_elem.specs.declared.element.Event.{Event}
 use Rattle.ss_meaning.specs.Window.{total, least, greatest}
 use Rattle.ss_meaning.specs.Session.{SessionWindow, SessionEntry, closing, session_row, closed, session_rows}
 use Rattle.ss_meaning.specs.Entries.{open_sessions}
-use Rattle.ss_meaning.specs.SessionLists.{AreApart, single_session, put_session, put_by_closing}
+use Rattle.ss_meaning.specs.SessionLists.{AreApart, single_session, put_session}
 
 -- an aggregate is that of its values joined in any order
 pub record JoinsBy (join : ℤ → ℤ → ℤ) (aggregate : List ℤ → ℤ) : Type 0 where
@@ -38,14 +38,6 @@ RowsAreOfSessions =
     (window : SessionWindow) (seen : List Event) (before after : ℕ)
     → session_rows window seen before after
     ≡ map (session_row window.gap) (closed window.gap (open_sessions window seen before) 0 after)
-
--- of a session and those behind it the ones that close in a span are those behind it that do, and it in its place
-abbrev pub ClosedOneByOne : Type 0
-ClosedOneByOne =
-    (gap : ℕ) (s : SessionEntry) (es : List SessionEntry) (before after : ℕ)
-    → closed gap (s ∷ es) before after
-    ≡ (if nat_lt before (closing gap s) && nat_le (closing gap s) after
-    then put_by_closing gap s (closed gap es before after) else closed gap es before after)
 
 -- a session counts a row at least and no more than there are, and doesn't end before it begins
 pub record IsSession (seen : List Event) (s : SessionEntry) : Type 0 where
