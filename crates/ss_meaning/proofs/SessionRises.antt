@@ -12,7 +12,7 @@ use Rattle.ss_meaning.specs.SessionLists.{IsApart, AreApart, single_session, joi
 use Rattle.ss_meaning.specs.SessionLaws.{AggregatesJoin, SessionsAfterRise, RowsAreOfSessions, IsSession, SessionsAreApart, PutKeepsApart}
 use Rattle.ss_meaning.proofs.Each.{each-filter, each-map, each_weaker, each_given, each_passes}
 use Rattle.ss_meaning.proofs.GivenRows.{each-put_once}
-use Rattle.ss_meaning.proofs.SessionPuts.{IsForward, Stand, stand, put_behind, put_before, put_touching, apart-put}
+use Rattle.ss_meaning.proofs.SessionPuts.{IsForward, Stand, stand, put_behind, put_before, put_touching, apart-put, each-put}
 use Rattle.ss_meaning.proofs.SessionSteps.{puts, each-puts, forward-puts, apart-puts, singles, singles_forward}
 use Rattle.ss_meaning.proofs.SessionKeys.{flat_map_alike, sessions_are_puts, stays_open}
 
@@ -160,8 +160,12 @@ sessions_are_apart window join j some seen bound =
 
 pub put_keeps_apart : PutKeepsApart
 put_keeps_apart gap join s es some a f h =
-    apart-put gap join s es some (record { times = a })
-    (each_weaker (λ (e : SessionEntry). e.first ≤ e.last) IsForward (λ e k. record { times = k }) es (recursion_from_All (λ (e : SessionEntry). e.first ≤ e.last) es f)) h
+    let times : AllByRecursion (λ (e : SessionEntry). e.first ≤ e.last) es = recursion_from_All (λ (e : SessionEntry). e.first ≤ e.last) es f in (
+      apart-put gap join s es some (record { times = a })
+      (each_weaker (λ (e : SessionEntry). e.first ≤ e.last) IsForward (λ e k. record { times = k }) es times) h,
+      All-from_recursion (λ (e : SessionEntry). e.first ≤ e.last) (put_session gap join s es)
+      (each-put (λ (e : SessionEntry). e.first ≤ e.last) gap join s es (λ x y k m n. omega (arith, m, n)) a times),
+    )
 
 -- the aggregates
 

@@ -40,3 +40,8 @@ put_session gap join s [] = s ∷ []
 put_session gap join s (e ∷ es) =
     if is_apart gap e s then e ∷ put_session gap join s es
     else (if is_apart gap s e then s ∷ e ∷ es else put_session gap join (joined_sessions join e s) es)
+
+-- a session as one with the first of others, where it doesn't stand before that one, and the others without it
+abbrev pub joined_first : ℕ → (ℤ → ℤ → ℤ) → SessionEntry → List SessionEntry → SessionEntry × List SessionEntry
+joined_first gap join s [] = (s, [])
+joined_first gap join s (e ∷ es) = if is_apart gap s e then (s, e ∷ es) else (joined_sessions join e s, es)
