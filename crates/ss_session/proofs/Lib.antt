@@ -1,0 +1,4 @@
+pub mod SessionJoins
+pub mod SessionFilters
+pub mod SessionTimes
+pub mod SessionArrivals

@@ -1,0 +1,5 @@
+pub mod States
+pub mod SessionHeld
+pub mod SessionSteps
+pub mod ImageTests
+pub mod ImageLaws

@@ -1,0 +1,11 @@
+//! Session windows and joins by absence, one element at a time.
+#![tactic(auto)]
+
+mod session;
+mod session_closing;
+mod session_entry;
+mod session_puts;
+
+pub use session::{Session, few_arrivals_are_few_rows};
+pub use ss_image::ImageFault;
+pub use std::alloc::AllocError as Memory;
