@@ -31,3 +31,4 @@ pub mod SessionPuts
 pub mod SessionSteps
 pub mod SessionKeys
 pub mod SessionRises
+pub mod SessionTouches

@@ -1,24 +1,20 @@
 -- Sessions that close as the bound rises, and what holds of those that are open.
-use Rattle.std.proofs.Common.{◌≡◌, ℕ, ◌+◌, ◌<◌, ◌≤◌, ◌==◌, ◌⊎◌, Bool, true, false, cond, ◌&&◌, ◌||◌, nat_lt, nat_le, ℤ, List, [], ◌∷◌, ◌++◌, length, map, filter, All, refl, sym, ap, subst, ◌∙◌, inl, inr, arith, ltb-true, ltb-false, lt-ltb, le-ltb, le-leb, eqb-true, eq-eqb}
-use Rattle.std.proofs.lemmas.Bool.{and_parts, eqb-false, cases_order, cond-true, cond-false, lt-leb}
+use Rattle.std.proofs.Common.{◌≡◌, ℕ, ◌+◌, ◌<◌, ◌≤◌, ◌==◌, Bool, true, false, cond, ◌&&◌, nat_lt, nat_le, ℤ, List, [], ◌∷◌, length, map, filter, All, refl, sym, ap, subst, ◌∙◌, inl, inr, arith, ltb-true, ltb-false, lt-ltb, le-ltb, eqb-true}
+use Rattle.std.proofs.lemmas.Bool.{and_parts, cond-false}
 use Rattle.std.proofs.lemmas.Int.{ints}
-use Rattle.std.proofs.lemmas.List.{append-nil}
 use Rattle.std.proofs.lemmas.List.Elements.{All-from_recursion, recursion_from_All}
 use Rattle.std.specs.Int.{int_min, int_max}
 use Rattle.std.specs.List.{AllByRecursion, fold, flat_map}
 use Rattle.ss_elem.specs.declared.element.Event.{Event}
-use Rattle.ss_meaning.specs.Window.{put_once, rising}
-use Rattle.ss_meaning.specs.Session.{SessionWindow, SessionEntry, sessions, closing, session_row, closings, closed}
-use Rattle.ss_meaning.specs.SessionLists.{IsApart, AreApart, single_session, joined_sessions, put_session, put_by_closing}
-use Rattle.ss_meaning.specs.SessionLaws.{AggregatesJoin, SessionsAfterRise, RowsAreOfSessions, ClosedOneByOne, IsSession, SessionsAreApart, PutKeepsApart}
-use Rattle.ss_meaning.proofs.Each.{each-filter, each-map, each_weaker, each_given, each_passes, each-flat_map}
-use Rattle.ss_meaning.proofs.Ends.{IsRising, rising-rising}
+use Rattle.ss_meaning.specs.Window.{rising}
+use Rattle.ss_meaning.specs.Session.{SessionWindow, SessionEntry, sessions, closing, session_row, closings}
+use Rattle.ss_meaning.specs.SessionLists.{IsApart, AreApart, single_session, joined_sessions, put_session}
+use Rattle.ss_meaning.specs.SessionLaws.{AggregatesJoin, SessionsAfterRise, RowsAreOfSessions, IsSession, SessionsAreApart, PutKeepsApart}
+use Rattle.ss_meaning.proofs.Each.{each-filter, each-map, each_weaker, each_given, each_passes}
 use Rattle.ss_meaning.proofs.GivenRows.{each-put_once}
-use Rattle.ss_meaning.proofs.EntryPuts.{among, among-above}
-use Rattle.ss_meaning.proofs.EntryLooks.{among-rising, among-filter}
-use Rattle.ss_meaning.proofs.SessionPuts.{IsForward, Stand, stand, put_behind, put_before, put_touching, apart-put}
+use Rattle.ss_meaning.proofs.SessionPuts.{IsForward, Stand, stand, put_behind, put_before, put_touching, apart-put, each-put}
 use Rattle.ss_meaning.proofs.SessionSteps.{puts, each-puts, forward-puts, apart-puts, singles, singles_forward}
-use Rattle.ss_meaning.proofs.SessionKeys.{flat_map_alike, sessions_are_puts, none_at, stays_open}
+use Rattle.ss_meaning.proofs.SessionKeys.{flat_map_alike, sessions_are_puts, stays_open}
 
 -- a rise
 
@@ -98,109 +94,6 @@ rows_are_of_sessions window seen before after =
     (closings gap all before after) (each_closing gap all before after))
     ∙ ap (λ ns. flat_map (λ time. filter (λ (s : SessionEntry). closing gap s == time) opened) (rising ns)) (same_closings gap all before after))
 
--- one by one
-
-put_closing_first : (gap : ℕ) (s : SessionEntry) (es : List SessionEntry) → AllByRecursion (λ (e : SessionEntry). closing gap s ≤ closing gap e) es → put_by_closing gap s es ≡ s ∷ es
-put_closing_first gap s [] h = refl
-put_closing_first gap s (e ∷ es) h = cond-true (nat_le (closing gap s) (closing gap e)) (s ∷ e ∷ es) (e ∷ put_by_closing gap s es) (le-leb (closing gap s) (closing gap e) h.0)
-
-put_closing_skip : (gap : ℕ) (s : SessionEntry) (es fs : List SessionEntry) → AllByRecursion (λ (e : SessionEntry). closing gap e < closing gap s) es
-    → put_by_closing gap s (es ++ fs) ≡ es ++ put_by_closing gap s fs
-put_closing_skip gap s [] fs h = refl
-put_closing_skip gap s (e ∷ es) fs h =
-    cond-false (nat_le (closing gap s) (closing gap e)) (s ∷ e ∷ (es ++ fs)) (e ∷ put_by_closing gap s (es ++ fs)) (lt-leb (closing gap s) (closing gap e) h.0)
-    ∙ ap (λ (l : List SessionEntry). e ∷ l) (put_closing_skip gap s es fs h.1)
-
-abbrev closed_at : ℕ → List SessionEntry → ℕ → List SessionEntry
-closed_at gap es time = filter (λ (s : SessionEntry). closing gap s == time) es
-
-each_closed_at : (gap : ℕ) (es : List SessionEntry) (time : ℕ) → AllByRecursion (λ (e : SessionEntry). closing gap e ≡ time) (closed_at gap es time)
-each_closed_at gap es time =
-    each_weaker (λ (e : SessionEntry). Unit {0} × ((closing gap e == time) ≡ true)) (λ (e : SessionEntry). closing gap e ≡ time) (λ e h. eqb-true (closing gap e) time h.1) (closed_at gap es time)
-    (each_passes (λ (e : SessionEntry). Unit {0}) (λ (s : SessionEntry). closing gap s == time) es (each_given (λ (e : SessionEntry). Unit {0}) (λ e. tt) es))
-
-elsewhere : (gap : ℕ) (s : SessionEntry) (es : List SessionEntry) (time : ℕ) → (closing gap s ≡ time → ⊥) → closed_at gap (s ∷ es) time ≡ closed_at gap es time
-elsewhere gap s es time h = by_test (closing gap s == time) refl
-  where
-    by_test : (b : Bool) → (closing gap s == time) ≡ b → cond b (s ∷ closed_at gap es time) (closed_at gap es time) ≡ closed_at gap es time
-    by_test false e = refl
-    by_test true e = absurd (h (eqb-true (closing gap s) time e))
-
-here : (gap : ℕ) (s : SessionEntry) (es : List SessionEntry) → closed_at gap (s ∷ es) (closing gap s) ≡ s ∷ closed_at gap es (closing gap s)
-here gap s es = cond-true (closing gap s == closing gap s) (s ∷ closed_at gap es (closing gap s)) (closed_at gap es (closing gap s)) (eq-eqb (closing gap s) (closing gap s) refl)
-
-at_or_later : (gap : ℕ) (s : SessionEntry) (es : List SessionEntry) (ts : List ℕ) → AllByRecursion (λ t. closing gap s ≤ t) ts
-    → AllByRecursion (λ (e : SessionEntry). closing gap s ≤ closing gap e) (flat_map (closed_at gap es) ts)
-at_or_later gap s es ts h =
-    each-flat_map (λ t. closing gap s ≤ t) (λ (e : SessionEntry). closing gap s ≤ closing gap e) (closed_at gap es)
-    (λ t m. each_weaker (λ (e : SessionEntry). closing gap e ≡ t) (λ (e : SessionEntry). closing gap s ≤ closing gap e) (λ e k. omega (arith, k, m)) (closed_at gap es t) (each_closed_at gap es t)) ts h
-
-later_alike : (gap : ℕ) (s : SessionEntry) (es : List SessionEntry) (ts : List ℕ) → AllByRecursion (λ t. closing gap s < t) ts → flat_map (closed_at gap (s ∷ es)) ts ≡ flat_map (closed_at gap es) ts
-later_alike gap s es ts h =
-    flat_map_alike (closed_at gap (s ∷ es)) (closed_at gap es) ts
-    (each_weaker (λ t. closing gap s < t) (λ t. closed_at gap (s ∷ es) t ≡ closed_at gap es t) (λ t k. elsewhere gap s es t (λ e. omega (arith, k, e))) ts h)
-
-put_in_time : (gap : ℕ) (s : SessionEntry) (es : List SessionEntry) (ts : List ℕ) → (among (closing gap s) ts ≡ false → closed_at gap es (closing gap s) ≡ []) → IsRising ts
-    → flat_map (closed_at gap (s ∷ es)) (put_once (closing gap s) ts) ≡ put_by_closing gap s (flat_map (closed_at gap es) ts)
-put_in_time gap s es [] none up = append-nil (closed_at gap (s ∷ es) (closing gap s)) ∙ (here gap s es ∙ ap (λ (l : List SessionEntry). s ∷ l) (none refl))
-put_in_time gap s es (m ∷ ms) none up = by_tests (nat_lt (closing gap s) m) (closing gap s == m) refl refl (λ n. put_in_time gap s es ms n up.1)
-  where
-    by_tests : (p q : Bool) → nat_lt (closing gap s) m ≡ p → (closing gap s == m) ≡ q
-        → ((among (closing gap s) ms ≡ false → closed_at gap es (closing gap s) ≡ []) → flat_map (closed_at gap (s ∷ es)) (put_once (closing gap s) ms) ≡ put_by_closing gap s (flat_map (closed_at gap es) ms))
-        → flat_map (closed_at gap (s ∷ es)) (cond p (closing gap s ∷ m ∷ ms) (cond q (m ∷ ms) (m ∷ put_once (closing gap s) ms))) ≡ put_by_closing gap s (flat_map (closed_at gap es) (m ∷ ms))
-    by_tests true q pp qq rest =
-        let less = ltb-true (closing gap s) m pp in
-        let all : AllByRecursion (λ t. closing gap s < t) (m ∷ ms) = (less, each_weaker (λ t. m < t) (λ t. closing gap s < t) (λ t h. omega (arith, h, less)) ms up.0) in
-        ap (λ (l : List SessionEntry). l ++ flat_map (closed_at gap (s ∷ es)) (m ∷ ms)) (here gap s es ∙ ap (λ (l : List SessionEntry). s ∷ l) (none (among-above (closing gap s) (m ∷ ms) all)))
-        ∙ (ap (λ (l : List SessionEntry). s ∷ l) (later_alike gap s es (m ∷ ms) all)
-        ∙ sym (put_closing_first gap s (flat_map (closed_at gap es) (m ∷ ms)) (at_or_later gap s es (m ∷ ms) (each_weaker (λ t. closing gap s < t) (λ t. closing gap s ≤ t) (λ t h. omega (arith, h)) (m ∷ ms) all))))
-    by_tests false true pp qq rest =
-        let same = eqb-true (closing gap s) m qq in
-        let all : AllByRecursion (λ t. closing gap s < t) ms = each_weaker (λ t. m < t) (λ t. closing gap s < t) (λ t h. omega (arith, h, same)) ms up.0 in
-        ap (λ (l : List SessionEntry). l ++ flat_map (closed_at gap (s ∷ es)) ms) (ap (closed_at gap (s ∷ es)) (sym same) ∙ (here gap s es ∙ ap (λ t. s ∷ closed_at gap es t) same))
-        ∙ (ap (λ (l : List SessionEntry). s ∷ (closed_at gap es m ++ l)) (later_alike gap s es ms all)
-        ∙ sym (put_closing_first gap s (flat_map (closed_at gap es) (m ∷ ms))
-        (at_or_later gap s es (m ∷ ms) (omega (arith, same), each_weaker (λ t. closing gap s < t) (λ t. closing gap s ≤ t) (λ t h. omega (arith, h)) ms all))))
-    by_tests false false pp qq rest =
-        let less : m < closing gap s = by_order (cases_order (closing gap s) m) in
-        ap (λ (l : List SessionEntry). l ++ flat_map (closed_at gap (s ∷ es)) (put_once (closing gap s) ms)) (elsewhere gap s es m (λ e. eqb-false (closing gap s) m qq e))
-        ∙ (ap (λ (l : List SessionEntry). closed_at gap es m ++ l) (rest (λ n. none (ap (λ b. b || among (closing gap s) ms) (flip qq) ∙ n)))
-        ∙ sym (put_closing_skip gap s (closed_at gap es m) (flat_map (closed_at gap es) ms)
-        (each_weaker (λ (e : SessionEntry). closing gap e ≡ m) (λ (e : SessionEntry). closing gap e < closing gap s) (λ e h. omega (arith, h, less)) (closed_at gap es m) (each_closed_at gap es m))))
-      where
-        flip : (closing gap s == m) ≡ false → (m == closing gap s) ≡ false
-        flip e = by_test (m == closing gap s) refl
-          where
-            by_test : (b : Bool) → (m == closing gap s) ≡ b → b ≡ false
-            by_test false f = refl
-            by_test true f = absurd (eqb-false (closing gap s) m e (sym (eqb-true m (closing gap s) f)))
-
-        by_order : (closing gap s ≡ m) ⊎ ((closing gap s < m) ⊎ (m < closing gap s)) → m < closing gap s
-        by_order (inl e) = absurd (eqb-false (closing gap s) m qq e)
-        by_order (inr (inl l)) = absurd (let most = ltb-false (closing gap s) m pp in omega (arith, most, l))
-        by_order (inr (inr l)) = l
-
-pub closed_one_by_one : ClosedOneByOne
-closed_one_by_one gap s es before after = by_test (between before after (closing gap s)) refl
-  where
-    by_test : (b : Bool) → between before after (closing gap s) ≡ b
-        → flat_map (closed_at gap (s ∷ es)) (rising (cond b (closing gap s ∷ filter (between before after) (map (closing gap) es)) (filter (between before after) (map (closing gap) es))))
-        ≡ cond b (put_by_closing gap s (closed gap es before after)) (closed gap es before after)
-    by_test true t =
-        put_in_time gap s es (closings gap es before after)
-        (λ n. none_at (closing gap) (closing gap s) es
-        (sym (ap (λ b. b && among (closing gap s) (map (closing gap) es)) t)
-        ∙ (sym (among-filter (between before after) (closing gap s) (map (closing gap) es))
-        ∙ (sym (among-rising (closing gap s) (filter (between before after) (map (closing gap) es))) ∙ n))))
-        (rising-rising (filter (between before after) (map (closing gap) es)))
-    by_test false t =
-        flat_map_alike (closed_at gap (s ∷ es)) (closed_at gap es) (closings gap es before after)
-        (each_weaker (λ u. between before after u ≡ true) (λ u. closed_at gap (s ∷ es) u ≡ closed_at gap es u)
-        (λ u h. elsewhere gap s es u (λ e. true_false (sym h ∙ (ap (between before after) (sym e) ∙ t)))) (closings gap es before after) (each_closing gap es before after))
-      where
-        true_false : true ≡ false → ⊥
-        true_false e = cc
-
 -- what holds of the open ones
 
 apart-filter : (gap : ℕ) (test : SessionEntry → Bool) (es : List SessionEntry) → AreApart gap es → AreApart gap (filter test es)
@@ -267,8 +160,12 @@ sessions_are_apart window join j some seen bound =
 
 pub put_keeps_apart : PutKeepsApart
 put_keeps_apart gap join s es some a f h =
-    apart-put gap join s es some (record { times = a })
-    (each_weaker (λ (e : SessionEntry). e.first ≤ e.last) IsForward (λ e k. record { times = k }) es (recursion_from_All (λ (e : SessionEntry). e.first ≤ e.last) es f)) h
+    let times : AllByRecursion (λ (e : SessionEntry). e.first ≤ e.last) es = recursion_from_All (λ (e : SessionEntry). e.first ≤ e.last) es f in (
+      apart-put gap join s es some (record { times = a })
+      (each_weaker (λ (e : SessionEntry). e.first ≤ e.last) IsForward (λ e k. record { times = k }) es times) h,
+      All-from_recursion (λ (e : SessionEntry). e.first ≤ e.last) (put_session gap join s es)
+      (each-put (λ (e : SessionEntry). e.first ≤ e.last) gap join s es (λ x y k m n. omega (arith, m, n)) a times),
+    )
 
 -- the aggregates
 

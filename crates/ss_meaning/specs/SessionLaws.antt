@@ -1,11 +1,12 @@
 -- What is true of the sessions of every session window.
-use Rattle.std.specs.Prelude.{◌≡◌, ℕ, ◌<◌, ◌≤◌, nat_lt, nat_le, ◌&&◌, if◌then◌else◌, ℤ, ◌+ℤ◌, List, [], ◌∷◌, ◌++◌, length, map, filter, All}
+use Rattle.std.specs.Prelude.{◌≡◌, ℕ, ◌<◌, ◌≤◌, nat_lt, ℤ, ◌+ℤ◌, List, [], ◌∷◌, ◌++◌, length, map, filter, take, drop, All}
 use Rattle.std.specs.Int.{int_min, int_max}
+use Rattle.std.specs.List.{prefix_len}
 use Rattle.ss_elem.specs.declared.element.Event.{Event}
 use Rattle.ss_meaning.specs.Window.{total, least, greatest}
 use Rattle.ss_meaning.specs.Session.{SessionWindow, SessionEntry, closing, session_row, closed, session_rows}
 use Rattle.ss_meaning.specs.Entries.{open_sessions}
-use Rattle.ss_meaning.specs.SessionLists.{AreApart, single_session, put_session, put_by_closing}
+use Rattle.ss_meaning.specs.SessionLists.{AreApart, is_apart, single_session, put_session, joined_first}
 
 -- an aggregate is that of its values joined in any order
 pub record JoinsBy (join : ℤ → ℤ → ℤ) (aggregate : List ℤ → ℤ) : Type 0 where
@@ -39,14 +40,6 @@ RowsAreOfSessions =
     → session_rows window seen before after
     ≡ map (session_row window.gap) (closed window.gap (open_sessions window seen before) 0 after)
 
--- of a session and those behind it the ones that close in a span are those behind it that do, and it in its place
-abbrev pub ClosedOneByOne : Type 0
-ClosedOneByOne =
-    (gap : ℕ) (s : SessionEntry) (es : List SessionEntry) (before after : ℕ)
-    → closed gap (s ∷ es) before after
-    ≡ (if nat_lt before (closing gap s) && nat_le (closing gap s) after
-    then put_by_closing gap s (closed gap es before after) else closed gap es before after)
-
 -- a session counts a row at least and no more than there are, and doesn't end before it begins
 pub record IsSession (seen : List Event) (s : SessionEntry) : Type 0 where
   pub times : s.first ≤ s.last
@@ -66,4 +59,15 @@ SessionsAreApart =
 abbrev pub PutKeepsApart : Type 0
 PutKeepsApart =
     (gap : ℕ) (join : ℤ → ℤ → ℤ) (s : SessionEntry) (es : List SessionEntry)
-    → 1 ≤ gap → s.first ≤ s.last → All (λ e. e.first ≤ e.last) es → AreApart gap es → AreApart gap (put_session gap join s es)
+    → 1 ≤ gap → s.first ≤ s.last → All (λ e. e.first ≤ e.last) es → AreApart gap es
+    → AreApart gap (put_session gap join s es) × All (λ e. e.first ≤ e.last) (put_session gap join s es)
+
+-- a session of one start is one with at most two others, which stand at its place
+abbrev pub PutJoinsAtMostTwo : Type 0
+PutJoinsAtMostTwo =
+    (gap : ℕ) (join : ℤ → ℤ → ℤ) (s : SessionEntry) (es : List SessionEntry)
+    → 1 ≤ gap → s.first ≡ s.last → All (λ e. e.first ≤ e.last) es → AreApart gap es
+    → let at = prefix_len (λ e. is_apart gap e s) es in
+    let one = joined_first gap join s (drop at es) in
+    let two = joined_first gap join one.0 one.1 in
+    put_session gap join s es ≡ take at es ++ two.0 ∷ two.1

@@ -41,8 +41,7 @@ put_session gap join s (e ∷ es) =
     if is_apart gap e s then e ∷ put_session gap join s es
     else (if is_apart gap s e then s ∷ e ∷ es else put_session gap join (joined_sessions join e s) es)
 
--- a session put among others in the order in which they close, before those that close when it does
-abbrev pub put_by_closing : ℕ → SessionEntry → List SessionEntry → List SessionEntry
-put_by_closing gap s [] = s ∷ []
-put_by_closing gap s (e ∷ es) =
-    if nat_le (closing gap s) (closing gap e) then s ∷ e ∷ es else e ∷ put_by_closing gap s es
+-- a session as one with the first of others, where it doesn't stand before that one, and the others without it
+abbrev pub joined_first : ℕ → (ℤ → ℤ → ℤ) → SessionEntry → List SessionEntry → SessionEntry × List SessionEntry
+joined_first gap join s [] = (s, [])
+joined_first gap join s (e ∷ es) = if is_apart gap s e then (s, e ∷ es) else (joined_sessions join e s, es)

@@ -1,7 +1,8 @@
 ghost use Rattle.ss_meaning.specs.SessionExamples.{TwoSessions, RowBetweenTwoSessions, SessionsInOrder};
 ghost use Rattle.ss_meaning.specs.SessionExamples.{GapParts, PutBetweenTwo};
 ghost use Rattle.ss_meaning.specs.SessionLaws.{AggregatesJoin, SessionsAfterRow, SessionsAfterRise};
-ghost use Rattle.ss_meaning.specs.SessionLaws.{RowsAreOfSessions, ClosedOneByOne, SessionsAreApart, PutKeepsApart};
+ghost use Rattle.ss_meaning.specs.SessionLaws.{RowsAreOfSessions, SessionsAreApart, PutKeepsApart};
+ghost use Rattle.ss_meaning.specs.SessionLaws.{PutJoinsAtMostTwo};
 
 /// The sessions that are open after one more arrival are made of those before it: a row is put in its place, and
 /// where the bound rises the sessions that it closes go, as the rows that the session window gives.
@@ -9,7 +10,6 @@ pub fn sessions_follow()
     ensures row { SessionsAfterRow }
     ensures rise { SessionsAfterRise }
     ensures given { RowsAreOfSessions }
-    ensures closed { ClosedOneByOne }
     ensures join { AggregatesJoin }
 {}
 
@@ -17,6 +17,7 @@ pub fn sessions_follow()
 pub fn sessions_are_apart()
     ensures all { SessionsAreApart }
     ensures put { PutKeepsApart }
+    ensures two { PutJoinsAtMostTwo }
 {}
 
 /// What session windows give and remember, on small sources.

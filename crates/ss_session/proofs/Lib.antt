@@ -1,1 +1,5 @@
 pub mod AloneRows
+pub mod SessionJoins
+pub mod SessionFilters
+pub mod SessionTimes
+pub mod SessionArrivals

@@ -1,5 +1,5 @@
 -- What holds of images.
-use Rattle.std.specs.Prelude.{◌≡◌, ℕ, ◌+◌, ◌^◌, ◌<◌, ◌≤◌, length, All, Ok, List}
+use Rattle.std.specs.Prelude.{◌≡◌, ◌+◌, ◌^◌, ◌<◌, ◌≤◌, length, All, Ok, List}
 use Rattle.ss_elem.specs.Rows.{IsKeptRow}
 use Rattle.ss_elem.specs.declared.element.Event.{Event}
 use Rattle.ss_expr.specs.Operators.{HasGap}

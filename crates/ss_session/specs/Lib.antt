@@ -2,3 +2,5 @@ pub mod States
 pub mod ImageTests
 pub mod ImageLaws
 pub mod ExceptStates
+pub mod SessionHeld
+pub mod SessionSteps

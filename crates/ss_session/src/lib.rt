@@ -3,7 +3,12 @@
 
 mod absence;
 mod except;
+mod session;
+mod session_closing;
+mod session_entry;
+mod session_puts;
 
 pub use except::Except;
+pub use session::{Session, few_arrivals_are_few_rows};
 pub use ss_image::ImageFault;
 pub use std::alloc::AllocError as Memory;

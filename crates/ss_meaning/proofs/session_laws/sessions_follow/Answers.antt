@@ -1,5 +1,5 @@
 use Rattle.ss_meaning.proofs.SessionKeys.{sessions_after_row}
-use Rattle.ss_meaning.proofs.SessionRises.{sessions_after_rise, rows_are_of_sessions, closed_one_by_one, aggregates_join}
+use Rattle.ss_meaning.proofs.SessionRises.{sessions_after_rise, rows_are_of_sessions, aggregates_join}
 use Rattle.ss_meaning.proofs.session_laws.sessions_follow.Goals as goal
 
 pub returns-clause-row : goal.returns-clause-row
@@ -10,9 +10,6 @@ returns-clause-rise c = sessions_after_rise
 
 pub returns-clause-given : goal.returns-clause-given
 returns-clause-given c = rows_are_of_sessions
-
-pub returns-clause-closed : goal.returns-clause-closed
-returns-clause-closed c = closed_one_by_one
 
 pub returns-clause-join : goal.returns-clause-join
 returns-clause-join c = aggregates_join

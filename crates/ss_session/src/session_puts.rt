@@ -1,0 +1,61 @@
+ghost use Rattle.std.specs.Prelude.{◌≡◌, ◌+◌, ◌^◌, ◌<◌, ◌≤◌, ◌++◌, length, take, drop, All};
+ghost use Rattle.std.specs.Prelude.{vec_len, vec_capacity};
+ghost use Rattle.std.specs.List.{prefix_len};
+ghost use Rattle.ss_meaning.specs.SessionLists.{AreApart, is_apart, joined_first, put_session};
+ghost use Rattle.ss_session.specs.SessionHeld.{join_of};
+
+use crate::session_entry::Entry;
+use ss_expr::Agg;
+use ss_meaning::sessions_are_apart;
+
+/// How many sessions in front stand before this one.
+fn place(entries: &[Entry], session: &Entry, gap: u64) -> usize
+    requires { gap ≤ 2 ^ 40 }
+    ensures place { result ≡ prefix_len (λ e. is_apart gap e session.now) entries.now }
+    ensures within { result ≤ length entries.now }
+{
+    entries
+        .iter()
+        .take_while(|entry| entry.is_apart(session, gap))
+        .count()
+}
+
+/// The session as one with the one at a place, which is taken out, where they are not apart.
+fn absorb(entries: &mut Vec<Entry>, at: usize, session: &Entry, gap: u64, agg: Agg) -> Entry
+    requires gap { gap ≤ 2 ^ 40 }
+    requires within { at ≤ length entries.old.items }
+    requires few { All (λ e. e.rows < 2 ^ 62) entries.old.items }
+    requires rows { session.now.rows ≤ 2 ^ 62 }
+    ensures session { result ≡ (joined_first gap (join_of agg) session.now (drop at entries.old.items)).0 }
+    ensures items { entries.new.items ≡ take at entries.old.items ++ (joined_first gap (join_of agg) session.now (drop at entries.old.items)).1 }
+    ensures len { vec_len entries.new ≤ vec_len entries.old }
+    ensures capacity { vec_capacity entries.new ≡ vec_capacity entries.old }
+    ensures rows { result.rows < session.now.rows + 2 ^ 62 }
+    ensures few_left { All (λ e. e.rows < 2 ^ 62) entries.new.items }
+{
+    if at < entries.len() && !session.is_apart(&entries[at], gap) {
+        entries.remove(at).joined(session, agg)
+    } else {
+        *session
+    }
+}
+
+/// Puts the session of one row in its place, as one with those from which it isn't apart, of which there are at most
+/// two.
+pub(crate) fn put(entries: &mut Vec<Entry>, session: &Entry, gap: u64, agg: Agg)
+    requires least { 1 ≤ gap }
+    requires most { gap ≤ 2 ^ 40 }
+    requires single { session.now.first ≡ session.now.last }
+    requires one { session.now.rows ≡ 1 }
+    requires room { vec_len entries.old < vec_capacity entries.old }
+    requires few { All (λ e. e.rows < 2 ^ 62) entries.old.items }
+    requires apart { AreApart gap entries.old.items }
+    requires times { All (λ e. e.first ≤ e.last) entries.old.items }
+    ensures { entries.new.items ≡ put_session gap (join_of agg) session.now entries.old.items }
+{
+    sessions_are_apart();
+    let at = place(entries.as_slice(), session, gap);
+    let with_first = absorb(entries, at, session, gap, agg);
+    let with_second = absorb(entries, at, &with_first, gap, agg);
+    entries.insert(at, with_second).unwrap();
+}
