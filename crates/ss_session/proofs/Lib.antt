@@ -3,3 +3,4 @@ pub mod SessionJoins
 pub mod SessionFilters
 pub mod SessionTimes
 pub mod SessionArrivals
+pub mod ExceptSteps
