@@ -4,6 +4,8 @@
 mod session;
 mod session_closing;
 mod session_entry;
+mod session_image_reader;
+mod session_image_writer;
 mod session_puts;
 
 pub use session::{Session, few_arrivals_are_few_rows};
