@@ -6,3 +6,5 @@ pub mod SessionReads
 pub mod SessionPassing
 pub mod SessionOneSpelling
 pub mod SessionSpellings
+pub mod SessionReadAgain
+pub mod SessionStateImages

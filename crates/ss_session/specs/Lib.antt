@@ -3,3 +3,4 @@ pub mod SessionHeld
 pub mod SessionSteps
 pub mod ImageTests
 pub mod ImageLaws
+pub mod SessionImageExamples
