@@ -7,7 +7,7 @@ use Rattle.ss_elem.specs.Validity.{top, Whole, next_bound}
 use Rattle.ss_elem.specs.declared.element.Event.{Event}
 use Rattle.ss_elem.specs.declared.element.Element.{Element}
 use Rattle.ss_elem.specs.declared.element.Element.TheVariants.{Row, Cti, End}
-use Rattle.ss_expr.specs.Operators.{operator_of, HasWholeHops}
+use Rattle.ss_expr.specs.Operators.{operator_of, HasWholeHops, HasGap}
 use Rattle.ss_expr.specs.declared.stream_operator.Agg.{Agg}
 use Rattle.ss_expr.specs.declared.stream_operator.Field.{Field}
 use Rattle.ss_expr.specs.declared.stream_operator.Spec.TheVariants as spec
@@ -17,14 +17,16 @@ use Rattle.ss_join.specs.ImageLaws as join
 use Rattle.ss_join.specs.States.{Sides}
 use Rattle.ss_meaning.specs.Bound.{row_of, rows, bound}
 use Rattle.ss_meaning.specs.Emit.{Except}
-use Rattle.ss_meaning.specs.Entries.{entries_after, entry_count, window_entries, join_side, alone_side}
+use Rattle.ss_meaning.specs.Entries.{entries_after, entry_count, window_entries, open_sessions, join_side, alone_side}
 use Rattle.ss_meaning.specs.Except.{is_alone}
 use Rattle.ss_meaning.specs.Inputs.{bounds}
 use Rattle.ss_meaning.specs.Laws.{ArrivalsMayFollow}
 use Rattle.ss_meaning.specs.Low.{low}
 use Rattle.ss_meaning.specs.Merge.{Arrival, merge, from_input, is_from}
 use Rattle.ss_oper.specs.Laws.{MayArriveAt, ImagesAreReadAgain}
-use Rattle.ss_oper.specs.Standing.{remembered, as_window, as_join}
+use Rattle.ss_oper.specs.Standing.{remembered, as_window, as_join, as_sessions}
+use Rattle.ss_session.specs.ImageLaws as session
+use Rattle.ss_session.specs.States as sessions
 use Rattle.ss_window.specs.ImageLaws.{IsKept}
 use Rattle.ss_window.specs.ImageLaws as window
 use Rattle.ss_window.specs.States.{State, Settings, window_of}
@@ -141,6 +143,39 @@ except_again law p kept follow count =
     (taken_above (λ (row : Event). nat_lt (bound (from_input 1 p)) row.end) (filter (is_alone rights) lefts)
     (taken_above (is_alone rights) lefts (taken_rows 0 p (recursion_from_All MayArriveAt p kept) (recursion_from_All Follows p follow)))) in
     ap as_join (law sides p (bounds 2 p) refl (record { left = refl; right = refl }) alone_taken (taken_side 1 p kept follow) count)
+
+-- what a session window remembers
+
+early_row : (input : ℕ) (x : Element) → MayArriveAt (record { input = input; element = x }) → AllByRecursion session.IsKept (row_of x)
+early_row input (Row row) k =
+    let early : row.start < 2 ^ 62 + 2 ^ 52 = k.early.0 in
+    (record { early = omega (arith, early); is_kept = k.kept }, tt)
+early_row input (Cti time) k = tt
+early_row input End k = tt
+
+both_early : (xs ys : List Event) → AllByRecursion session.IsKept xs → AllByRecursion session.IsKept ys → AllByRecursion session.IsKept (xs ++ ys)
+both_early [] ys h k = k
+both_early (x ∷ xs) ys h k = (h.0, both_early xs ys h.1 k)
+
+early_rows : (p : List Arrival) → AllByRecursion MayArriveAt p → AllByRecursion session.IsKept (rows (from_input 0 p))
+early_rows [] k = tt
+early_rows (x ∷ p) k = by_test (is_from 0 x) (early_rows p k.1)
+  where
+    by_test : (b : Bool) → AllByRecursion session.IsKept (rows (from_input 0 p))
+        → AllByRecursion session.IsKept (rows (map (λ (y : Arrival). y.element) (cond b (x ∷ filter (is_from 0) p) (filter (is_from 0) p))))
+    by_test true rest = both_early (row_of x.element) (rows (from_input 0 p)) (early_row x.input x.element k.0) rest
+    by_test false rest = rest
+
+session_again : session.StatesAreReadAgain → (gap : ℕ) (agg : Agg) (of : Field) (p : List Arrival) → HasGap gap
+    → All MayArriveAt p → length p ≤ 2 ^ 62 → entry_count (entries_after (operator_of (spec.Session gap agg of)) 1 p) < 2 ^ 32
+    → remembered (spec.Session gap agg of) (bounds 1 p) (image_of (entries_after (operator_of (spec.Session gap agg of)) 1 p))
+    ≡ Ok (entries_after (operator_of (spec.Session gap agg of)) 1 p)
+session_again law gap agg of p is_gap kept few count =
+    let settings : sessions.Settings = record { gap = gap; agg = agg; field = of } in
+    let state : sessions.State = record { settings = settings; entries = open_sessions (sessions.window_of settings) (rows (from_input 0 p)) (low 1 p) } in
+    let each : All session.IsKept (rows (from_input 0 p)) =
+    All-from_recursion session.IsKept (rows (from_input 0 p)) (early_rows p (recursion_from_All MayArriveAt p kept)) in
+    ap as_sessions (law state p is_gap refl each few count)
 
 pub images_again : ArrivalsMayFollow → window.StatesAreReadAgain → join.StatesAreReadAgain → join.StatesAreReadAgainAs Except → session.StatesAreReadAgain → ImagesAreReadAgain
 images_again follows windows joins excepts sessions (spec.Select test a b c d) lists p rest computable takes whole split kept few count = refl

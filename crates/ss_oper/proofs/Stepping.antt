@@ -1,5 +1,6 @@
 -- One step of an operator, of what it gives and of how far its inputs have come.
-use Rattle.std.proofs.Common.{◌≡◌, ℕ, List, [], ◌∷◌, ◌++◌, length, get_or, map, sym, ap, ◌∙◌, append_assoc, arith}
+use Rattle.std.proofs.Common.{◌≡◌, ℕ, ◌+◌, List, [], ◌∷◌, ◌++◌, length, get_or, map, sym, ap, ◌∙◌, append_assoc, arith}
+use Rattle.std.proofs.lemmas.List.{length-append, length-map}
 use Rattle.std.proofs.lemmas.List.FromFn.{get_or-map-range_with_len}
 use Rattle.ss_elem.specs.declared.element.Event.{Event}
 use Rattle.ss_elem.specs.declared.element.Element.{Element}
@@ -12,8 +13,8 @@ use Rattle.ss_meaning.specs.Entries.{entries_after}
 use Rattle.ss_meaning.specs.Low.{low, advance}
 use Rattle.ss_meaning.specs.Merge.{Arrival, from_input}
 use Rattle.ss_merge.specs.Merging.{MergerState, StandsAfter, IsLow, arriving}
-use Rattle.ss_oper.specs.Kept.{AreBoundsAfter, GivesRows, spec_kept, state_of}
-use Rattle.ss_oper.specs.Standing.{Steps}
+use Rattle.ss_oper.specs.Kept.{AreBoundsAfter, CountsRows, GivesRows, spec_kept, state_of}
+use Rattle.ss_oper.specs.Standing.{CountsGiven, Steps}
 use Rattle.ss_oper.specs.declared.kept.Kept.{Kept}
 
 -- what a merger tells of its inputs
@@ -46,3 +47,23 @@ steps merger input x old new stood least all before middle after is_low same sam
           ∙ append_assoc before rows (advance stood least)
           ∙ ap (λ (back : List Element). before ++ (rows ++ back)) rise;
     }
+
+-- as many rows, and what tells that Low rose
+pub counts : (merger : MergerState) (input : ℕ) (x : Element) (kept : Kept) (stood least : ℕ) (all : List ℕ) (rows n : ℕ)
+    → IsLow merger least → ((i : ℕ) → get_or all i 0 ≡ get_or merger.bounds i 0) → CountsRows kept input x least all rows → n ≡ rows + length (advance stood least)
+    → CountsGiven merger input x (state_of kept stood) n
+counts merger input x kept stood least all rows n is_low same gives told p stands may now =
+    let m : ℕ = length merger.bounds in
+    let q : List Arrival = p ++ arriving input x ∷ [] in
+    let are : AreBoundsAfter m q least all = bounds_after merger q least all now is_low same in
+    let given = rows_at (operator_of (spec_kept kept)) m p (arriving input x) in
+    let count : rows ≡ length given = gives m p stands.entries may are in
+    let rise : advance stood least ≡ advance (low m p) (low m q) = ap (λ b. advance b least) stands.low ∙ ap (advance (low m p)) are.low in
+    omega (
+      arith,
+      told,
+      count,
+      ap (λ (xs : List Element). length xs) rise,
+      length-append (map (λ (row : Event). Row row) given) (advance (low m p) (low m q)),
+      length-map given (λ (row : Event). Row row),
+    )
