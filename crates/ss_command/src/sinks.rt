@@ -13,13 +13,8 @@ pub(crate) fn sink_file(job: &Job, v: u32) -> Option<&str>
 {
     match job.op(v) {
         Op::Sink => Some(job.file(v)),
-        Op::Source
-        | Op::Select
-        | Op::Union
-        | Op::Window
-        | Op::Join
-        | Op::Session
-        | Op::Except => None,
+        Op::Source | Op::Select | Op::Union | Op::Window | Op::Join | Op::Session | Op::Except =>
+            None,
     }
 }
 

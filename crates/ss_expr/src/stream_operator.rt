@@ -26,7 +26,11 @@ pub enum Spec {
     /// The pairs of rows of two inputs with one key and overlapping spans.
     Join,
     /// An aggregate of each session: the rows of a key of which each starts less than `gap` after the one before.
-    Session { gap: u64, agg: Agg, of: Field },
+    Session {
+        gap: u64,
+        agg: Agg,
+        of: Field,
+    },
     /// The rows of the first of two inputs that no row of the second with their key overlaps.
     Except,
 }

@@ -260,7 +260,6 @@ few_at laws plan is v n spec.Join o within =
       filter_fewer (λ (row : Event). nat_lt (bound (from_input 1 p)) row.end) (rows (from_input 0 p)),
       filter_fewer (λ (row : Event). nat_lt (bound (from_input 0 p)) row.end) (rows (from_input 1 p)),
     )
-
 few_at laws plan is v n (spec.Session gap agg of) o within =
     let window : SessionWindow = record { gap = gap; aggregate = aggregate_of agg; field = field_of of } in
     let seen = rows (from_input 0 (accepted plan v n)) in

@@ -281,7 +281,6 @@ rows_kept law spec.Join of inputs p x few h k =
     (each_filter (IsRow IsTaken) (matches row) earlier
     (each_row IsTaken (from_input (1 - x.input) p) (each_from IsTaken (1 - x.input) p h))))
     (row_of x.element) (rows_of_one IsTaken x.element k)
-
 rows_kept law (spec.Session gap agg field) of inputs p x few h k =
     session_kept law (record { gap = gap; aggregate = aggregate_of agg; field = field_of field }) (rows (from_input 0 p))
     (low inputs p) (low inputs (p ++ x ∷ [])) (omega (arith, few, arrived_fewer 0 p))

@@ -162,9 +162,9 @@ pub put_keeps_apart : PutKeepsApart
 put_keeps_apart gap join s es some a f h =
     let times : AllByRecursion (λ (e : SessionEntry). e.first ≤ e.last) es = recursion_from_All (λ (e : SessionEntry). e.first ≤ e.last) es f in (
       apart-put gap join s es some (record { times = a })
-      (each_weaker (λ (e : SessionEntry). e.first ≤ e.last) IsForward (λ e k. record { times = k }) es times) h,
+          (each_weaker (λ (e : SessionEntry). e.first ≤ e.last) IsForward (λ e k. record { times = k }) es times) h,
       All-from_recursion (λ (e : SessionEntry). e.first ≤ e.last) (put_session gap join s es)
-      (each-put (λ (e : SessionEntry). e.first ≤ e.last) gap join s es (λ x y k m n. omega (arith, m, n)) a times),
+          (each-put (λ (e : SessionEntry). e.first ≤ e.last) gap join s es (λ x y k m n. omega (arith, m, n)) a times),
     )
 
 -- the aggregates

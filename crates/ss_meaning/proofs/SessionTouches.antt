@@ -89,8 +89,8 @@ second gap join s e (x ∷ xs) some one ef f a h t = by_stand (stand gap x (join
         ∙ (put_first gap join (joined_sessions join x (joined_sessions join e s)) xs some (joined_forward join x (joined_sessions join e s) f.0 forward) f.1
         (each_weaker (IsApart gap x) (IsApart gap (joined_sessions join x (joined_sessions join e s)))
         (λ y g. record {
-            keys = g.keys;
-            times = λ k. let l = g.times k in let m = a.0.times (sym p.keys) in let right = t.right in omega (arith, l, m, right, one, f.0.times, ef.times);
+          keys = g.keys;
+          times = λ k. let l = g.times k in let m = a.0.times (sym p.keys) in let right = t.right in omega (arith, l, m, right, one, f.0.times, ef.times);
         }) xs h.0)
         ∙ ap (λ (q : SessionEntry × List SessionEntry). q.0 ∷ q.1) (sym (joins gap join (joined_sessions join e s) x xs p)))
 

@@ -144,13 +144,7 @@ pub(crate) fn give_rows(
 
 /// How many rows the operator gives at an element of this input, after which Low is `low` and the inputs have these
 /// bounds.
-pub(crate) fn count_rows(
-    kept: &Kept,
-    input: u32,
-    x: &Element,
-    low: Bound,
-    bounds: [u64; 8],
-) -> u64
+pub(crate) fn count_rows(kept: &Kept, input: u32, x: &Element, low: Bound, bounds: [u64; 8]) -> u64
     requires kept { IsKept kept.now }
     requires early { IsBefore (2 ^ 63) x.now }
     ensures rows { CountsRows kept.now input x.now low bounds result }

@@ -38,7 +38,12 @@ pub(crate) fn except_output(
 }
 
 /// Adds what a join by absence gives at one element.
-fn step(except: &mut Except, x: &Arrived, bounds: &mut Bounds, out: &mut Out) -> Result<(), AllocError>
+fn step(
+    except: &mut Except,
+    x: &Arrived,
+    bounds: &mut Bounds,
+    out: &mut Out,
+) -> Result<(), AllocError>
     requires two { length bounds.old ≡ 2 }
     requires input { x.now.input < 2 }
     requires early { IsBefore (2 ^ 63) x.now.element }

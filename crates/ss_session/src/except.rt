@@ -17,9 +17,7 @@ ghost use Rattle.ss_session.specs.ExceptStates.{CountsGiven};
 use crate::absence::{ended, give, is_alone, without_matched};
 use ss_elem::{Element, Event, Out};
 use ss_image::ImageFault;
-use ss_join::{
-    Side, images_have_early_rows, images_have_one_spelling, put_image, read_image,
-};
+use ss_join::{Side, images_have_early_rows, images_have_one_spelling, put_image, read_image};
 use ss_meaning::{absent_rows_follow, join_sides_follow};
 use std::alloc::{AllocError, Global};
 use std::marker::Model;
