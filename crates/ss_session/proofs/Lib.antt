@@ -10,3 +10,5 @@ pub mod SessionOneSpelling
 pub mod SessionSpellings
 pub mod SessionReadAgain
 pub mod SessionStateImages
+pub mod SessionPlaces
+pub mod SessionExtends

@@ -97,7 +97,7 @@ apart_from gap s t h = by_case (or_cases (nat_lt s.key t.key) (s.key == t.key &&
         let most = leb-true (closing gap s) t.first parts.1 in
         record { keys = omega (arith, same); times = λ e. most }
 
-apart_trans : (gap : ℕ) (s t u : SessionEntry) → t.first ≤ t.last → IsApart gap s t → IsApart gap t u → IsApart gap s u
+pub apart_trans : (gap : ℕ) (s t u : SessionEntry) → t.first ≤ t.last → IsApart gap s t → IsApart gap t u → IsApart gap s u
 apart_trans gap s t u f a b = record {
   keys = omega (arith, a.keys, b.keys);
   times = λ k.

@@ -1,9 +1,10 @@
 -- What the program holds of an open session.
-use Rattle.std.specs.Prelude.{◌*◌, ◌^◌, ◌<◌, ◌≤◌, ℤ, pos, neg_ℤ, ◌+ℤ◌, ◌≤ℤ◌, List, length, slice_get, Option, ◌-◌}
+use Rattle.std.specs.Prelude.{◌*◌, ◌^◌, ◌<◌, ◌≤◌, ℤ, pos, neg_ℤ, ◌+ℤ◌, ◌≤ℤ◌, List, length, slice_get, Option, ◌-◌, ℕ, ◌+◌, take, drop, ◌++◌, ◌∷◌, slice_index_or}
 use Rattle.std.specs.Int.{int_min, int_max}
 use Rattle.ss_expr.specs.declared.stream_operator.Agg.{Agg}
 use Rattle.ss_expr.specs.declared.stream_operator.Agg.TheVariants.{Sum, Least, Greatest}
 use Rattle.ss_meaning.specs.Session.{SessionEntry}
+use Rattle.ss_meaning.specs.SessionLists.{joined_sessions, joined_first}
 
 -- a session ends before 2^63 and not before it begins, and so many rows can't sum up to what doesn't fit 128 bits
 pub record IsHeld (s : SessionEntry) : Type 0 where
@@ -23,3 +24,9 @@ join_of Greatest = int_max
 -- the last of some sessions, where there is one
 abbrev pub last_of : List SessionEntry → Option SessionEntry
 last_of es = slice_get es (length es - 1)
+
+-- sessions with one joined to that at a place, and then to the next, where it doesn't stand before that one
+abbrev pub extended : ℕ → (ℤ → ℤ → ℤ) → SessionEntry → ℕ → List SessionEntry → List SessionEntry
+extended gap join s at es =
+    let two = joined_first gap join (joined_sessions join (slice_index_or es at s) s) (drop (at + 1) es) in
+    take at es ++ two.0 ∷ two.1

@@ -2,7 +2,7 @@ ghost use Rattle.std.specs.Prelude.{◌≡◌, ◌+◌, ◌^◌, ◌<◌, ◌≤
 ghost use Rattle.std.specs.Prelude.{vec_len, vec_capacity};
 ghost use Rattle.std.specs.List.{prefix_len};
 ghost use Rattle.ss_meaning.specs.SessionLists.{AreApart, is_apart, joined_first, put_session};
-ghost use Rattle.ss_session.specs.SessionHeld.{join_of};
+ghost use Rattle.ss_session.specs.SessionHeld.{join_of, extended};
 
 use crate::session_entry::Entry;
 use ss_expr::Agg;
@@ -10,14 +10,13 @@ use ss_meaning::sessions_are_apart;
 
 /// How many sessions in front stand before this one.
 fn place(entries: &[Entry], session: &Entry, gap: u64) -> usize
-    requires { gap ≤ 2 ^ 40 }
+    requires gap { gap ≤ 2 ^ 40 }
+    requires apart { AreApart gap entries.now }
+    requires times { All (λ e. e.first ≤ e.last) entries.now }
     ensures place { result ≡ prefix_len (λ e. is_apart gap e session.now) entries.now }
     ensures within { result ≤ length entries.now }
 {
-    entries
-        .iter()
-        .take_while(|entry| entry.is_apart(session, gap))
-        .count()
+    entries.partition_point(|entry| entry.is_apart(session, gap))
 }
 
 /// The session as one with the one at a place, which is taken out, where they are not apart.
@@ -40,6 +39,19 @@ fn absorb(entries: &mut Vec<Entry>, at: usize, session: &Entry, gap: u64, agg: A
     }
 }
 
+/// Joins the session to the one at a place, and then to the next one, where they are not apart.
+fn extend(entries: &mut Vec<Entry>, at: usize, session: &Entry, gap: u64, agg: Agg)
+    requires gap { gap ≤ 2 ^ 40 }
+    requires inside { at < length entries.old.items }
+    requires one { session.now.rows ≡ 1 }
+    requires few { All (λ e. e.rows < 2 ^ 62) entries.old.items }
+    ensures { entries.new.items ≡ extended gap (join_of agg) session.now at entries.old.items }
+{
+    let joined = entries[at].joined(session, agg);
+    let with_second = absorb(entries, at + 1, &joined, gap, agg);
+    entries[at] = with_second;
+}
+
 /// Puts the session of one row in its place, as one with those from which it isn't apart, of which there are at most
 /// two.
 pub(crate) fn put(entries: &mut Vec<Entry>, session: &Entry, gap: u64, agg: Agg)
@@ -55,7 +67,9 @@ pub(crate) fn put(entries: &mut Vec<Entry>, session: &Entry, gap: u64, agg: Agg)
 {
     sessions_are_apart();
     let at = place(entries.as_slice(), session, gap);
-    let with_first = absorb(entries, at, session, gap, agg);
-    let with_second = absorb(entries, at, &with_first, gap, agg);
-    entries.insert(at, with_second).unwrap();
+    if at == entries.len() || session.is_apart(&entries[at], gap) {
+        entries.insert(at, *session).unwrap();
+    } else {
+        extend(entries, at, session, gap, agg);
+    }
 }
