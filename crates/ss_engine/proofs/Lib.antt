@@ -14,3 +14,4 @@ pub mod StartVertices
 pub mod CollectActs
 pub mod Wiped
 pub mod Behind
+pub mod TakenApart

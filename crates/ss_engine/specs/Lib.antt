@@ -3,6 +3,7 @@ pub mod Joint
 pub mod Laws
 pub mod Wipes
 pub mod Applies
+pub mod Apart
 pub mod Around
 pub mod Plays
 pub mod Begins

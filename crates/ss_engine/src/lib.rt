@@ -2,6 +2,7 @@
 #![tactic(auto)]
 
 mod allowed;
+mod apart;
 mod applying;
 mod around;
 mod durable;

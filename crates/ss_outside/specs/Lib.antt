@@ -3,6 +3,7 @@ pub mod DepotCalls
 pub mod Faults
 pub mod FileInputs
 pub mod FileOutputs
+pub mod Meetings
 pub mod MemDepot
 pub mod MemInputs
 pub mod MemOutputs
