@@ -42,7 +42,7 @@ def build(name, listed, jobs):
     is_new = not any(it.exists() and it.read_text() == text for it in built)
     if is_new:
         note("begin", name, jobs)
-        time.sleep(60 if name == os.environ.get("SLOW") else 0.1)
+        time.sleep(60 if name == os.environ.get("SLOW") else 0.3)
         if name == os.environ.get("FAILS"):
             note("fail", name, jobs)
             print(f"{name} is not proved")
