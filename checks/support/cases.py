@@ -1,4 +1,4 @@
-"""The job files of the tests' cases (docs/TESTING.md): of each case what it says under `file job.toml`."""
+"""The tests' cases (docs/TESTING.md): the job files that they give, and the plays that they work out."""
 import re
 from pathlib import Path
 
@@ -7,6 +7,7 @@ from .program import TOP
 FILES = sorted((TOP / "crates/tests_commands/data").glob("*.cases"))
 ROWS = TOP / "crates/tests_commands/src/rows.rt"
 SIMPLE = {"n": "\n", "c": "\r", "t": "\t", "s": " ", "e": "", "\\": "\\"}
+TURN = re.compile(r"\\\{(?:(\d+)\*)?i(?:([+%])(\d+))?\}")
 ESCAPE = re.compile(r"\\(?:x([0-9a-f]{2})|\{(\d+) of ([^}]*)\}|(.))", re.S)
 
 
@@ -67,6 +68,48 @@ def jobs_of(text):
         rows = [it.split(" => ") for it in block.lines("rows") or []] if block.kind == "table" else [[]]
         found += [(block.name, text_of(lines, cells)) for cells in rows]
     return found
+
+
+def repeated(lines):
+    """Lines with each part between `\\repeat N` and `\\end` written out."""
+    lines, found = iter(lines), []
+    for line in lines:
+        if not line.startswith("\\repeat "):
+            found.append(line)
+            continue
+        part = [*iter(lambda: next(lines), "\\end")]
+        for turn in range(int(line.split()[1])):
+            for it in part:
+                every, it = it.split(" ", 2)[1:] if it.startswith("\\every ") else (1, it)
+                if (turn + 1) % int(every) == 0:
+                    found.append(TURN.sub(lambda match: str(number_of(turn, *match.groups())), it))
+    return found
+
+
+def number_of(turn, factor, sign, other):
+    number = turn * int(factor or 1)
+    return number % int(other) if sign == "%" else number + int(other or 0)
+
+
+def plays_of(text):
+    """The plays of a text of cases that end well: of each its name, its files, and all that it wants on standard output."""
+    shared, found = {}, []
+    for block in blocks_of(text):
+        if block.kind == "given":
+            shared[block.name] = block.fields
+        fields = [its for word, lines in block.fields for its in (shared.get(word[5:], []) if word.startswith("with ") else [(word, lines)])]
+        words = {word for word, _ in fields}
+        is_other = any(word.startswith(("status ", "fail ", "damage ", "put ")) for word in words)
+        if block.kind != "case" or is_other or not {"words play job.toml --schedule s.txt", "acts", "text -"} <= words:
+            continue
+        told = lambda lines: text_of(repeated(lines), []).decode("latin-1")
+        files = {word[5:]: told(lines) for word, lines in fields if word.startswith("file ")}
+        found.append((block.name, files, "".join(told(lines) for word, lines in fields if word in ("acts", "text -"))))
+    return found
+
+
+def all_plays():
+    return [play for it in FILES if it.name in ("plays.cases", "collections.cases") for play in plays_of(it.read_text())]
 
 
 def all_jobs():

@@ -1,11 +1,10 @@
-"""Plays: the worked ones of checks/plays, and random ones that are the same at each run."""
+"""Plays: the worked ones of the tests' cases, and random ones that are the same at each run."""
 import random
-from pathlib import Path
 
+from .cases import all_plays
 from .meaning import Job, Meaning
 from .runs import Run
 
-WORKED = Path(__file__).parent.parent / "plays"
 VERBS = ("read", "write", "snap", "crash", "load", "lose", "flush", "take", "collect", "trim", "pass")
 
 
@@ -44,12 +43,8 @@ class Play:
 
 
 def worked_plays():
-    """The plays that the tests and the documents work out, each with the report that they give by hand."""
-    found = []
-    for folder in sorted(WORKED.iterdir()):
-        files = {it.name: it.read_text() for it in sorted(folder.glob("*.csv"))}
-        found.append(Play(folder.name, (folder / "job.toml").read_text(), files, (folder / "report.txt").read_text()))
-    return found
+    """The plays that the tests' cases work out, each with the report that they give by hand."""
+    return [Play(name, files["job.toml"], {it: text for it, text in files.items() if it != "job.toml"}, report) for name, files, report in all_plays()]
 
 
 # Jobs for random plays: every operator, several replicas, passes that come soon, and streams that are read twice.
