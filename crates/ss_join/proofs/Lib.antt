@@ -12,3 +12,4 @@ pub mod StateImages
 pub mod OneSpelling
 pub mod Ended
 pub mod EarlyRows
+pub mod Popped

@@ -12,11 +12,7 @@ use std::alloc::AllocError;
 const COUNTS_LEN: usize = 8;
 
 /// Appends the image of the two sides. Its room is reserved first, so that it is appended whole or not at all.
-pub fn put_image(
-    out: &mut Vec<u8>,
-    left: &[Event],
-    right: &[Event],
-) -> Result<(), AllocError>
+pub fn put_image(out: &mut Vec<u8>, left: &[Event], right: &[Event]) -> Result<(), AllocError>
     requires { length left.now + length right.now < 2 ^ 32 }
     ensures ok { OnOk result (out.new.items ≡ out.old.items ++ join_image left.now right.now) }
     ensures err { OnErr result (out.new.items ≡ out.old.items) }

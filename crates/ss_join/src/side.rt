@@ -2,6 +2,9 @@ ghost use Rattle.std.specs.Prelude.{◌≡◌, ◌^◌, ◌<◌, ◌==◌, ◌++
 ghost use Rattle.std.specs.Prelude.{IfOk};
 ghost use Rattle.std.specs.Map.{values_of};
 ghost use Rattle.ss_meaning.specs.Entries.{rows_ending_above};
+ghost use Rattle.ss_meaning.specs.ExceptLaws.{ending_up_to};
+ghost use Rattle.std.specs.Prelude.{None};
+ghost use Rattle.std.specs.Option.{option_to_list};
 ghost use Rattle.std.specs.Set.{distinct_count, is_member};
 ghost use Rattle.ss_join.specs.Held.{first_reached, is_new, keys_apart};
 ghost use Rattle.ss_join.specs.States.{row_keys};
@@ -111,6 +114,22 @@ impl Side {
             if let Some(first) = self.ends.pop_first() {
                 let _ = self.rows.remove(&(first.2, first.1));
             }
+        }
+    }
+
+    /// Takes out the row that ends first, where it ends at `bound` or before it: of several that end then, the one that
+    /// arrived first.
+    pub fn pop_ended(&mut self, bound: u64) -> Option<Event>
+        ensures first { ending_up_to bound self.old ≡ option_to_list result ++ ending_up_to bound self.new }
+        ensures open { rows_ending_above bound self.new ≡ rows_ending_above bound self.old }
+        ensures none { result ≡ None → rows_ending_above bound self.new ≡ self.new }
+    {
+        if !is_first_reached(&self.ends, bound) {
+            return None;
+        }
+        match self.ends.pop_first() {
+            Some(first) => self.rows.remove(&(first.2, first.1)),
+            None => None,
         }
     }
 
