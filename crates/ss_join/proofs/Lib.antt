@@ -13,3 +13,4 @@ pub mod OneSpelling
 pub mod Ended
 pub mod EarlyRows
 pub mod Popped
+pub mod Matched
