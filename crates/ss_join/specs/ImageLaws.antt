@@ -9,6 +9,7 @@ use Rattle.ss_meaning.specs.Merge.{Arrival}
 use Rattle.ss_meaning.specs.Emit.{Kind, Join}
 use Rattle.ss_image.specs.declared.row_form.RowForm.TheVariants.{Narrow}
 use Rattle.ss_image.specs.Images.{image_in, join_image}
+use Rattle.ss_image.specs.Numbers.{AreBytes}
 use Rattle.ss_join.specs.ImageTests.{is_open_span, image_read}
 use Rattle.ss_join.specs.States.{Sides, StandsAs, AreBoundsAfter}
 
@@ -58,3 +59,9 @@ pub record HasEarlyTimes (row : Event) : Type 0 where
 abbrev pub ImagesHaveEarlyRows : Type 0
 ImagesHaveEarlyRows =
     (bounds bytes : List ℕ) (sides : Sides) → image_read bounds bytes ≡ Ok sides → All HasEarlyTimes sides.left
+
+-- bytes that say sides are their image, so no sides have two images
+abbrev pub ImagesHaveOneSpelling : Type 0
+ImagesHaveOneSpelling =
+    (bounds bytes : List ℕ) (sides : Sides) → AreBytes bytes → image_read bounds bytes ≡ Ok sides
+    → bytes ≡ join_image sides.left sides.right

@@ -3,10 +3,10 @@ ghost use Rattle.ss_join.specs.ImageExamples.{OneByteFewer, EndedRow};
 ghost use Rattle.ss_join.specs.ImageExamples.{WideRowsSpelled, WideRowsRead, WideWithoutNeed, NeitherForm, NoRowsRead};
 ghost use Rattle.ss_join.specs.ImageExamples.{WideRowEnded, NarrowAgain};
 ghost use Rattle.ss_join.specs.ImageLaws.{SidesAreReadAgain, NarrowImagesAreRead, StatesAreReadAgain};
-ghost use Rattle.ss_join.specs.ImageLaws.{StatesAreReadAgainAs, ImagesHaveEarlyRows};
+ghost use Rattle.ss_join.specs.ImageLaws.{StatesAreReadAgainAs, ImagesHaveEarlyRows, ImagesHaveOneSpelling};
 ghost use Rattle.ss_meaning.specs.Emit.{Except};
 
-use ss_image::numbers_are_read_again;
+use ss_image::{numbers_are_read_again, numbers_have_one_spelling};
 
 /// Images of small joins, and what bytes near them say.
 pub fn image_examples()
@@ -43,3 +43,10 @@ pub fn images_are_read_again()
 pub fn images_have_early_rows()
     ensures { ImagesHaveEarlyRows }
 {}
+
+/// Bytes that say rows are the image of those rows.
+pub fn images_have_one_spelling()
+    ensures { ImagesHaveOneSpelling }
+{
+    numbers_have_one_spelling();
+}

@@ -11,7 +11,8 @@ mod pairs;
 mod side;
 
 pub use image_laws::{
-    image_examples, images_are_read_again, images_have_early_rows, wide_image_examples,
+    image_examples, images_are_read_again, images_have_early_rows, images_have_one_spelling,
+    wide_image_examples,
 };
 pub use image_reader::read_image;
 pub use image_writer::put_image;

@@ -3,3 +3,10 @@ pub mod SessionJoins
 pub mod SessionFilters
 pub mod SessionTimes
 pub mod SessionArrivals
+pub mod ExceptSteps
+pub mod SessionReads
+pub mod SessionPassing
+pub mod SessionOneSpelling
+pub mod SessionSpellings
+pub mod SessionReadAgain
+pub mod SessionStateImages

@@ -4,3 +4,4 @@ pub mod ImageLaws
 pub mod ExceptStates
 pub mod SessionHeld
 pub mod SessionSteps
+pub mod SessionImageExamples

@@ -1,5 +1,5 @@
 -- What the program holds of an open session.
-use Rattle.std.specs.Prelude.{◌*◌, ◌^◌, ◌<◌, ◌≤◌, ℤ, pos, neg_ℤ, ◌+ℤ◌, ◌≤ℤ◌}
+use Rattle.std.specs.Prelude.{◌*◌, ◌^◌, ◌<◌, ◌≤◌, ℤ, pos, neg_ℤ, ◌+ℤ◌, ◌≤ℤ◌, List, length, slice_get, Option, ◌-◌}
 use Rattle.std.specs.Int.{int_min, int_max}
 use Rattle.ss_expr.specs.declared.stream_operator.Agg.{Agg}
 use Rattle.ss_expr.specs.declared.stream_operator.Agg.TheVariants.{Sum, Least, Greatest}
@@ -19,3 +19,7 @@ abbrev pub join_of : Agg → ℤ → ℤ → ℤ
 join_of Sum = ◌+ℤ◌
 join_of Least = int_min
 join_of Greatest = int_max
+
+-- the last of some sessions, where there is one
+abbrev pub last_of : List SessionEntry → Option SessionEntry
+last_of es = slice_get es (length es - 1)

@@ -16,9 +16,11 @@ ghost use Rattle.ss_session.specs.ExceptStates.{CountsGiven};
 
 use crate::absence::{ended, give, is_alone, without_matched};
 use ss_elem::{Element, Event, Out};
-use ss_image::{ImageFault, numbers_have_one_spelling};
-use ss_join::{Side, images_have_early_rows, put_image, read_image};
-use ss_meaning::absent_rows_follow;
+use ss_image::ImageFault;
+use ss_join::{
+    Side, images_have_early_rows, images_have_one_spelling, put_image, read_image,
+};
+use ss_meaning::{absent_rows_follow, join_sides_follow};
 use std::alloc::{AllocError, Global};
 use std::marker::Model;
 
@@ -78,6 +80,7 @@ impl Except {
         ensures err_out { OnErr result (out.new.elements ≡ out.old.elements) }
     {
         absent_rows_follow();
+        join_sides_follow();
         match x {
             Element::Row(row) => {
                 if input == 0 {
@@ -133,8 +136,8 @@ impl Except {
         ensures spelling { IfOk result (λ except. bytes.now ≡ join_image except.left except.right) }
         ensures fault { IfErr result (λ fault. Fails fault (image_read bounds bytes.now)) }
     {
-        numbers_have_one_spelling();
         images_have_early_rows();
+        images_have_one_spelling();
         let (left, right) = read_image(alloc, bounds, bytes)?;
         Ok(Except {
             alloc,

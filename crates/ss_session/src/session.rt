@@ -1,15 +1,21 @@
-ghost use Rattle.std.specs.Prelude.{◌≡◌, ◌+◌, ◌^◌, ◌<◌, ◌≤◌, ◌++◌, [], length, All, OnOk, OnErr};
+ghost use Rattle.std.specs.Prelude.{◌≡◌, ◌+◌, ◌^◌, ◌<◌, ◌≤◌, ◌++◌, [], length, All, Ok, OnOk, OnErr, IfOk, IfErr};
 ghost use Rattle.std.specs.Prelude.{IsTrue, ◌↔◌};
 ghost use Rattle.ss_expr.specs.Operators.{HasGap, field_of};
+ghost use Rattle.ss_image.specs.Faults.{Fails};
+ghost use Rattle.ss_image.specs.Images.{session_image};
 ghost use Rattle.ss_meaning.specs.Jobs.{IsBefore};
+ghost use Rattle.ss_session.specs.ImageTests.{image_read};
 ghost use Rattle.ss_session.specs.States.{StandsAfter, StepsFromAll, CountsFew, FewArrivalsAreFewRows, reached};
 ghost use Rattle.ss_session.specs.SessionSteps.{with_row, left, given_at};
 
 use crate::session_closing::{closed, give};
 use crate::session_entry::Entry;
+use crate::session_image_reader::read_image;
+use crate::session_image_writer::put_image;
 use crate::session_puts::put;
 use ss_elem::{Bound, Element, Event, Out};
 use ss_expr::{Agg, Field};
+use ss_image::{ImageFault, numbers_have_one_spelling};
 use ss_meaning::{sessions_are_apart, sessions_close_in_time, sessions_follow};
 use std::alloc::{AllocError, Global};
 use std::marker::Model;
@@ -96,6 +102,44 @@ impl Session {
         ensures { result ≡ length self.now.entries }
     {
         self.entries.len() as u64
+    }
+
+    /// Appends the image of the sessions.
+    ///
+    /// An error is want of memory.
+    pub fn image(&self, out: &mut Vec<u8>) -> Result<(), AllocError>
+        requires { length self.now.entries < 2 ^ 32 }
+        ensures ok { OnOk result (out.new.items ≡ out.old.items ++ session_image self.now.entries) }
+        ensures err { OnErr result (out.new.items ≡ out.old.items) }
+    {
+        put_image(out, &self.entries)
+    }
+
+    /// The session window whose image these bytes are, where Low is `low`.
+    pub fn of_image(
+        alloc: Global,
+        gap: u64,
+        agg: Agg,
+        of: Field,
+        low: Bound,
+        bytes: &[u8],
+    ) -> Result<Session, ImageFault>
+        requires { HasGap gap }
+        ensures settings { IfOk result (λ s. s.settings ≡ record { gap = gap; agg = agg; field = of }) }
+        ensures ok { IfOk result (λ s. image_read gap agg low bytes.now ≡ Ok s.entries) }
+        // Bytes that are taken are the image of what is remembered then, so no state has two images.
+        ensures spelling { IfOk result (λ s. bytes.now ≡ session_image s.entries) }
+        ensures fault { IfErr result (λ fault. Fails fault (image_read gap agg low bytes.now)) }
+    {
+        numbers_have_one_spelling();
+        let entries = read_image(alloc, gap, agg, low.get(), bytes)?;
+        Ok(Session {
+            alloc,
+            gap,
+            agg,
+            of,
+            entries,
+        })
     }
 
     /// Puts a row into the sessions of its key.
