@@ -30,7 +30,7 @@ same_place p q h = place_exact p q (equal_from (place_cmp p q) h)
 at_end : (t q : ℕ × ℕ × ℕ) → t ≡ q → is_at (end_cmp t) q ≡ true
 at_end t q h = subst (λ r. is_at (end_cmp t) r ≡ true) h (ap is_eq (tied_itself end_total t))
 
-at_place : (p q : ℕ × ℕ) → p ≡ q → is_at (place_cmp p) q ≡ true
+pub at_place : (p q : ℕ × ℕ) → p ≡ q → is_at (place_cmp p) q ≡ true
 at_place p q h = subst (λ r. is_at (place_cmp p) r ≡ true) h (ap is_eq (tied_itself place_total p))
 
 no_both : (b : Bool) → b ≡ true → b ≡ false → ⊥

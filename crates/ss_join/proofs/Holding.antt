@@ -82,7 +82,7 @@ put_undone rows rows' ends mid new row number held same put taken ends_ordered =
 abbrev pub above : ℕ → List ((ℕ × ℕ) × Event) → List ((ℕ × ℕ) × Event)
 above bound rows = filter (λ r. nat_lt bound r.1.end) rows
 
-numbered-above : (bound : ℕ) (rows : List ((ℕ × ℕ) × Event)) → numbered (above bound rows) ≡ filter (λ (x : ℕ × Event). nat_lt bound x.1.end) (numbered rows)
+pub numbered-above : (bound : ℕ) (rows : List ((ℕ × ℕ) × Event)) → numbered (above bound rows) ≡ filter (λ (x : ℕ × Event). nat_lt bound x.1.end) (numbered rows)
 numbered-above bound [] = refl
 numbered-above bound (r ∷ rs) = by_test (nat_lt bound r.1.end) (numbered-above bound rs)
   where
@@ -92,7 +92,7 @@ numbered-above bound (r ∷ rs) = by_test (nat_lt bound r.1.end) (numbered-above
     by_test true rest = ap (λ (xs : List (ℕ × Event)). (r.0.1, r.1) ∷ xs) rest
     by_test false rest = rest
 
-found_row : (o : Option Event) (end : ℕ) → ends_at end o ≡ true → (row : Event) × (o ≡ Some row) × (row.end ≡ end)
+pub found_row : (o : Option Event) (end : ℕ) → ends_at end o ≡ true → (row : Event) × (o ≡ Some row) × (row.end ≡ end)
 found_row None end h = let no : ⊥ = cc in absurd no
 found_row (Some row) end h = (row, refl, eqb-true row.end end h)
 
@@ -116,7 +116,7 @@ forgot_one rows rows' ends ends' next bound t held member reached entries end_is
           ∙ filter-removed (λ (row : Event). nat_lt bound row.end) test found.0 rows.entries found.1 (le-ltb bound found.0.end (omega (arith, ended, reached))),
     )
 
-not_greater : (a b : ℕ) (c d : Ordering) → is_gt (ordering_then (ordering_then (nat_cmp a b) c) d) ≡ false → a ≤ b
+pub not_greater : (a b : ℕ) (c d : Ordering) → is_gt (ordering_then (ordering_then (nat_cmp a b) c) d) ≡ false → a ≤ b
 not_greater a b c d h = by_order (nat_cmp a b) (ranked a b (nat_cmp a b) refl) h
   where
     by_order : (o : Ordering) → MatchOrdering o (a < b) (a ≡ b) (b < a) → is_gt (ordering_then (ordering_then o c) d) ≡ false → a ≤ b

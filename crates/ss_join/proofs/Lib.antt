@@ -12,3 +12,5 @@ pub mod StateImages
 pub mod OneSpelling
 pub mod Ended
 pub mod EarlyRows
+pub mod Popped
+pub mod Matched

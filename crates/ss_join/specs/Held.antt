@@ -9,6 +9,7 @@ use Rattle.std.specs.BTreeSet.{BTreeSet, contains}
 use Rattle.std.specs.BTreeSet as set
 use Rattle.std.specs.Set.{is_member}
 use Rattle.ss_elem.specs.declared.element.Event.{Event}
+use Rattle.ss_meaning.specs.Join.{matches}
 
 -- the order in which rows are held: that of their keys, and at one key that of their arrival
 abbrev pub place_cmp : ℕ × ℕ → ℕ × ℕ → Ordering
@@ -67,3 +68,12 @@ is_new (Some before) key = not (before == key)
 -- the keys that others don't have
 abbrev pub keys_apart : List ℕ → List ℕ → List ℕ
 keys_apart others keys = filter (λ key. not (is_member nat_eq others key)) keys
+
+-- the rows that have a row's key and a time in common with it, at their places
+abbrev pub matched : Event → List ((ℕ × ℕ) × Event) → List ((ℕ × ℕ) × Event)
+matched row rows = filter (λ r. matches r.1 row) rows
+
+-- the number and the end of the first of these rows
+abbrev pub first_place : List ((ℕ × ℕ) × Event) → Option (ℕ × ℕ)
+first_place [] = None
+first_place (r ∷ rs) = let place : ℕ × ℕ = (r.0.1, r.1.end) in Some place

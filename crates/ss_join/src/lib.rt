@@ -6,6 +6,7 @@ mod image_laws;
 mod image_reader;
 mod image_writer;
 mod join;
+mod matching;
 mod pairs;
 mod side;
 
@@ -16,7 +17,8 @@ pub use image_laws::{
 pub use image_reader::read_image;
 pub use image_writer::put_image;
 pub use join::Join;
-pub use pairs::{count, matches};
+pub use matching::matches;
+pub use pairs::count;
 pub use side::Side;
 pub use ss_image::ImageFault;
 pub use std::alloc::AllocError as Memory;

@@ -1,16 +1,10 @@
 ghost use Rattle.std.specs.Prelude.{◌≡◌, ◌+◌, ◌≤◌, ◌<◌, ◌^◌, ◌++◌, ℕ, length, count_by};
 ghost use Rattle.ss_join.specs.States.{joined_elements};
-ghost use Rattle.ss_meaning.specs.Join.{joined, joined_from, matches};
+ghost use Rattle.ss_meaning.specs.Join.{joined, joined_from};
 
+use crate::matching::matches;
 use crate::side::Side;
 use ss_elem::{Element, Event, Out};
-
-/// Whether two rows have one key and a time in common.
-pub fn matches(x: &Event, y: &Event) -> bool
-    ensures { result ≡ matches x.now y.now }
-{
-    x.key == y.key && x.start < y.end && y.start < x.end
-}
 
 /// The time that a left and a right row have in common, with the first value of each as its first two, and the third
 /// value of each as its last two.

@@ -2,11 +2,15 @@ ghost use Rattle.std.specs.Prelude.{◌≡◌, ◌^◌, ◌<◌, ◌==◌, ◌++
 ghost use Rattle.std.specs.Prelude.{IfOk};
 ghost use Rattle.std.specs.Map.{values_of};
 ghost use Rattle.ss_meaning.specs.Entries.{rows_ending_above};
+ghost use Rattle.ss_meaning.specs.Except.{alone};
+ghost use Rattle.ss_meaning.specs.ExceptLaws.{ending_up_to};
+ghost use Rattle.std.specs.Prelude.{None};
+ghost use Rattle.std.specs.Option.{option_to_list};
 ghost use Rattle.std.specs.Set.{distinct_count, is_member};
 ghost use Rattle.ss_join.specs.Held.{first_reached, is_new, keys_apart};
 ghost use Rattle.ss_join.specs.States.{row_keys};
 
-use crate::held::{Ends, Rows, by_number, listed, put};
+use crate::held::{Ends, Rows, by_number, listed, next_match, put};
 use ss_elem::{Event, Key};
 use std::alloc::{AllocError, Global};
 use std::collections::btree_map::Range;
@@ -111,6 +115,35 @@ impl Side {
             if let Some(first) = self.ends.pop_first() {
                 let _ = self.rows.remove(&(first.2, first.1));
             }
+        }
+    }
+
+    /// Takes away the rows that have the key of `row` and a time in common with it. It goes through the rows of that key
+    /// alone.
+    pub fn remove_matches(&mut self, row: &Event)
+        ensures { self.new ≡ alone (row.now ∷ []) self.old }
+    {
+        let mut from = 0;
+        while let Some(found) = next_match(&self.rows, row, from, self.next) {
+            let _ = self.ends.remove(&(found.1, found.0, row.key));
+            let _ = self.rows.remove(&(row.key, found.0));
+            from = found.0 + 1;
+        }
+    }
+
+    /// Takes out the row that ends first, where it ends at `bound` or before it: of several that end then, the one that
+    /// arrived first.
+    pub fn pop_ended(&mut self, bound: u64) -> Option<Event>
+        ensures first { ending_up_to bound self.old ≡ option_to_list result ++ ending_up_to bound self.new }
+        ensures open { rows_ending_above bound self.new ≡ rows_ending_above bound self.old }
+        ensures none { result ≡ None → rows_ending_above bound self.new ≡ self.new }
+    {
+        if !is_first_reached(&self.ends, bound) {
+            return None;
+        }
+        match self.ends.pop_first() {
+            Some(first) => self.rows.remove(&(first.2, first.1)),
+            None => None,
         }
     }
 

@@ -14,7 +14,7 @@ ghost use Rattle.ss_meaning.specs.Jobs.{IsBefore};
 ghost use Rattle.ss_join.specs.ImageLaws.{HasEarlyTimes};
 ghost use Rattle.ss_session.specs.ExceptStates.{CountsGiven};
 
-use crate::absence::{ended, give, is_alone, without_matched};
+use crate::absence::{give, give_ended, is_alone, keep_open};
 use ss_elem::{Element, Event, Out};
 use ss_image::ImageFault;
 use ss_join::{Side, images_have_early_rows, images_have_one_spelling, put_image, read_image};
@@ -29,7 +29,6 @@ use std::marker::Model;
 /// the rows that end above the left bound, each in the order of their arrival.
 #[derive(Drop)]
 pub struct Except {
-    alloc: Global,
     left: Side,
     right: Side,
 }
@@ -52,7 +51,6 @@ impl Except {
         ensures { StandsAs meaning.Except result [] }
     {
         Except {
-            alloc,
             left: Side::new(alloc),
             right: Side::new(alloc),
         }
@@ -138,7 +136,6 @@ impl Except {
         images_have_one_spelling();
         let (left, right) = read_image(alloc, bounds, bytes)?;
         Ok(Except {
-            alloc,
             left: Side::of_rows(alloc, &left)?,
             right: Side::of_rows(alloc, &right)?,
         })
@@ -160,7 +157,7 @@ impl Except {
         out.reserve(2)?;
         if is_alone(row, &self.right) {
             if row.end <= bound {
-                give(&[*row], out);
+                give(row, out);
             } else {
                 self.left.push(row)?;
             }
@@ -177,13 +174,8 @@ impl Except {
         ensures err { OnErr result (self.new ≡ self.old) }
     {
         out.reserve(1)?;
-        let kept = without_matched(self.alloc, &self.left, row)?;
-        if row.end > bound {
-            self.right.push(row)?;
-        }
-        if let Some(kept) = kept {
-            self.left = kept;
-        }
+        keep_open(&mut self.right, row, bound)?;
+        self.left.remove_matches(row);
         Ok(())
     }
 
@@ -200,14 +192,13 @@ impl Except {
         ensures err { OnErr result (self.new ≡ self.old) }
         ensures err_out { OnErr result (out.new.elements ≡ out.old.elements) }
     {
+        absent_rows_follow();
         if input == 0 {
             out.reserve(1)?;
             self.right.forget(bounds[0]);
         } else {
-            let ended = ended(self.alloc, &self.left, bounds[1])?;
-            out.reserve(ended.len() as u64 + 1)?;
-            give(&ended, out);
-            self.left.forget(bounds[1]);
+            out.reserve(self.left.count_ended(bounds[1]) + 1)?;
+            give_ended(&mut self.left, bounds[1], out);
         }
         Ok(())
     }
