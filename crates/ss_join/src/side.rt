@@ -159,6 +159,9 @@ impl Side {
         ensures count { result ≡ length (filter (λ row. nat_le row.end bound) self.now) }
         ensures few { result < 2 ^ 63 }
     {
+        if !is_first_reached(&self.ends, bound) {
+            return 0;
+        }
         let mut count = 0;
         for row in self.rows.values() {
             if row.end <= bound {
