@@ -2,7 +2,7 @@
 use crate::case::{Case, Field, copies};
 use crate::cells::{cells_of, with_cells};
 use crate::fault::CasesFault;
-use std::alloc::Global;
+use std::alloc::{AllocError, Global};
 
 /// What a block is for.
 #[derive(Clone, Copy, PartialEq, Eq)]
@@ -56,12 +56,7 @@ impl Block {
         let mut fields = Vec::new(alloc);
         for field in self.fields.iter() {
             if field.word.as_str() != "rows" {
-                fields.push(Field {
-                    line: field.line,
-                    word: String::from_str(alloc, field.word.as_str())?,
-                    rest: with_cells(alloc, field.rest.as_str(), cells.as_slice())?,
-                    lines: with_cells(alloc, field.lines.as_str(), cells.as_slice())?,
-                })?;
+                fields.push(field_with(alloc, field, cells.as_slice())?)?;
             }
         }
         let mut name = String::from_str(alloc, self.name.as_str())?;
@@ -69,4 +64,14 @@ impl Block {
         name.push_str(row)?;
         Ok(Case { name, fields })
     }
+}
+
+/// The field with these cells in their places.
+fn field_with(alloc: Global, field: &Field, cells: &[&str]) -> Result<Field, AllocError> {
+    let head = format!(in alloc; "{} {}", field.word, field.rest)?;
+    let head = with_cells(alloc, head.as_str(), cells)?;
+    let (word, rest) = head.as_str().split_once(" ").unwrap_or(("", ""));
+    let mut made = Field::new(alloc, field.line, word, rest)?;
+    made.lines = with_cells(alloc, field.lines.as_str(), cells)?;
+    Ok(made)
 }

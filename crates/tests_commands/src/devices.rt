@@ -6,10 +6,8 @@ ghost use Rattle.ss_outside.specs.MemDepot.{mem_depot_told};
 ghost use Rattle.ss_outside.specs.MemOutputs.{mem_outputs_told};
 ghost use Rattle.ss_vault.specs.Calls.{HaveNoBytes};
 
-use crate::lists::{number_of, one_word};
-use crate::stop::{Stop, bad_words};
 use crate::wanted::put_schedule;
-use cases::{Case, Field, text_of, words_of};
+use cases::{Case, Field, Stop, bad_words, number_of, one_word, text_of, words_of};
 use ss_outside::{DepotCall, MemDepot, MemInputs, MemOutputs};
 use std::alloc::Global;
 

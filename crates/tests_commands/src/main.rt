@@ -1,62 +1,21 @@
 //! The tests of commands: walks over the worked rows and over files of cases, and tells how many of each pass.
 #![tactic(auto)]
 
-mod compare;
 mod devices;
-mod lists;
 mod rows;
-mod stop;
-mod tally;
 #[cfg(test)]
 mod tests;
 mod walk;
 mod wanted;
 
 use crate::rows::ROWS;
-use crate::tally::tell_file;
-use ss_outside::{FileInputs, FileOutputs, Inputs, Outputs};
-use std::alloc::Global;
-use std::process::ExitCode;
-use std::{env, io};
+use crate::walk::Commands;
+use cases::{tell_file, tell_files};
+use std::test::Fail;
 
 /// Walks over the worked rows, and over the files that its words name, which lie where it runs.
-fn main(rt: HostRuntime) -> ExitCode {
-    let mut inputs = FileInputs::new(&rt);
-    let mut outputs = FileOutputs::new(&rt);
-    match tell_files(&rt, &mut inputs, &mut outputs) {
-        Ok(()) => ExitCode::from(0),
-        Err(_) => ExitCode::from(1),
-    }
-}
-
-/// Tells of the worked rows, and then of each file.
-fn tell_files(
-    rt: &HostRuntime,
-    inputs: &mut impl Inputs,
-    outputs: &mut impl Outputs,
-) -> io::Result<()> {
-    let report = tell_file(rt.alloc(), "rows", ROWS.as_bytes())?;
-    put(outputs, report.as_str())?;
-    for name in env::args(rt)?.skip(1) {
-        let report = report_of(rt.alloc(), inputs, name.as_str())?;
-        put(outputs, report.as_str())?;
-    }
-    Ok(())
-}
-
-/// Puts a text to standard output.
-fn put(outputs: &mut impl Outputs, text: &str) -> io::Result<()> {
-    match outputs.put("-", text.as_bytes()) {
-        Ok(()) => Ok(()),
-        Err(_) => Err(io::ErrorKind::Other.into()),
-    }
-}
-
-/// What is told of a file.
-fn report_of(alloc: Global, inputs: &mut impl Inputs, name: &str) -> io::Result<String> {
-    let mut bytes = Vec::new(alloc);
-    match inputs.read(name, &mut bytes) {
-        Ok(()) => Ok(tell_file(alloc, name, bytes.as_slice())?),
-        Err(_) => Ok(format!(in alloc; "{name}: cannot be read\n")?),
-    }
+fn main(rt: HostRuntime) -> Result<(), Fail> {
+    let told = tell_file::<Commands>(rt.alloc(), "rows", ROWS)?;
+    print!(rt; "{told}")?;
+    tell_files::<Commands>(&rt)
 }

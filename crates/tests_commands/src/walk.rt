@@ -1,13 +1,14 @@
 //! Does what a case says, and compares what is left.
-use crate::compare::{compare, compare_numbers};
 use crate::devices::{depot_of, inputs_of, outputs_of};
-use crate::lists::{is_among, number_of, one_word};
-use crate::stop::{Stop, bad_words, unknown};
 use crate::wanted::{Text, texts_of, wanted_under};
-use cases::{Case, Field, text_of, words_of};
+use cases::{
+    Case, Field, Stop, Walker, bad_words, compare, compare_numbers, is_among, number_of, one_word,
+    text_of, unknown, words_of,
+};
 use ss_command::{Done, Outside, perform};
 use ss_outside::{MemDepot, MemInputs, MemOutputs};
 use std::alloc::Global;
+use std::test::Fail;
 
 type Left = Done<MemInputs, MemOutputs, MemDepot>;
 
@@ -17,8 +18,18 @@ const NAMES: [&str; 16] = [
     "two.csv", "l.csv", "r.csv", "job.toml", "s.txt", "t.txt",
 ];
 
+/// The walker over commands.
+#[derive(Drop)]
+pub(crate) enum Commands {}
+
+impl Walker for Commands {
+    fn check(alloc: Global, case: &Case) -> Result<Result<(), Stop>, Fail> {
+        Ok(check(alloc, case))
+    }
+}
+
 /// Does each command of a case, each over devices of its own, and compares what it leaves. A case has a command.
-pub(crate) fn check(alloc: Global, case: &Case) -> Result<(), Stop> {
+fn check(alloc: Global, case: &Case) -> Result<(), Stop> {
     check_words(case)?;
     let texts = texts_of(alloc, case)?;
     let mut commands = 0_u64;

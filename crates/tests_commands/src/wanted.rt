@@ -1,7 +1,5 @@
 //! What a case wants of outputs.
-use crate::lists::one_word;
-use crate::stop::{Stop, bad_words};
-use cases::{Case, Field, text_of};
+use cases::{Case, Field, Stop, bad_words, one_word, text_of};
 use std::alloc::Global;
 
 /// What is wanted under a name.

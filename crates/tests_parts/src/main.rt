@@ -1,4 +1,5 @@
-//! Runs the cases of the parts of a job: elements, expressions, codecs, images, windows, joins and operators. Each file of cases says at its head which words its cases have.
+//! Runs the cases of the parts of a job: elements, expressions, codecs, images, windows, joins and operators. Each file of
+//! cases says at its head which words its cases have.
 #![tactic(auto)]
 
 mod bytes;
@@ -13,80 +14,13 @@ mod operators;
 mod parts;
 mod spec;
 mod told;
-mod walk;
 mod windows;
 
-use crate::walk::{Difference, difference_in};
-use cases::read_cases;
-use ss_outside::{FileInputs, Inputs};
+use crate::parts::JobParts;
+use cases::tell_files;
 use std::test::Fail;
 
-const FILES: [&str; 7] = [
-    "elements.cases",
-    "expressions.cases",
-    "codecs.cases",
-    "images.cases",
-    "windows.cases",
-    "joins.cases",
-    "operators.cases",
-];
-
-/// A file whose cases are all wrong: the program has to say so.
-const WRONG: &str = "wrong.cases";
-
-/// How many cases of a file hold, and how many don't.
-#[derive(Clone, Copy, Debug, PartialEq, Eq)]
-struct Counts {
-    passed: u64,
-    wrong: u64,
-}
-
+/// Walks over the files that its words name, which lie where it runs.
 fn main(rt: HostRuntime) -> Result<(), Fail> {
-    let mut wrong = 0_u64;
-    for file in FILES {
-        let counts = run(&rt, file)?;
-        println!(rt; "{file}: {} passed", counts.passed)?;
-        wrong = wrong.saturating_add(counts.wrong);
-    }
-    let told = run(&rt, WRONG)?;
-    println!(rt; "{WRONG}: {} told as wrong", told.wrong)?;
-    if wrong == 0
-        && told
-            == (Counts {
-                passed: 0,
-                wrong: 3,
-            })
-    {
-        Ok(())
-    } else {
-        Err(Fail::new("not all cases are as they should be"))
-    }
-}
-
-/// Runs the cases of a file, and tells of each that is wrong its first line that differs.
-fn run(rt: &HostRuntime, file: &str) -> Result<Counts, Fail> {
-    let alloc = rt.alloc();
-    let mut bytes = Vec::new(alloc);
-    FileInputs::new(rt).read(file, &mut bytes)?;
-    let mut counts = Counts {
-        passed: 0,
-        wrong: 0,
-    };
-    for case in read_cases(alloc, str::from_utf8(&bytes)?)?.iter() {
-        match difference_in(alloc, case)? {
-            None => counts.passed = counts.passed.saturating_add(1),
-            Some(found) => {
-                tell(rt, file, case.name.as_str(), &found)?;
-                counts.wrong = counts.wrong.saturating_add(1);
-            }
-        }
-    }
-    Ok(counts)
-}
-
-fn tell(rt: &HostRuntime, file: &str, case: &str, found: &Difference) -> Result<(), Fail> {
-    println!(rt; "{file}:{}: {case}", found.line)?;
-    println!(rt; "  wanted: {}", found.wanted)?;
-    println!(rt; "  came:   {}", found.came)?;
-    Ok(())
+    tell_files::<JobParts>(&rt)
 }

@@ -2,14 +2,14 @@
 use crate::bytes::{self, changed, sealed};
 use crate::merged::Inputs;
 use crate::{elements, expressions, images, joins, operators, windows};
-use cases::{Field, rest_of, text_of, words_of};
+use cases::{Case, Field, Parts, Stop, Walker, check_fields, rest_of, text_of, words_of};
 use ss_expr::ValueKind;
 use std::alloc::Global;
 use std::test::Fail;
 
 /// What the fields of a case have set so far.
 #[derive(Drop)]
-pub(crate) struct Parts {
+pub(crate) struct JobParts {
     alloc: Global,
     operator: String,
     /// The event files of the inputs.
@@ -18,9 +18,15 @@ pub(crate) struct Parts {
     bytes: Vec<u8>,
 }
 
-impl Parts {
-    pub(crate) fn new(alloc: Global) -> Parts {
-        Parts {
+impl Walker for JobParts {
+    fn check(alloc: Global, case: &Case) -> Result<Result<(), Stop>, Fail> {
+        check_fields::<JobParts>(alloc, case)
+    }
+}
+
+impl Parts for JobParts {
+    fn new(alloc: Global) -> JobParts {
+        JobParts {
             alloc,
             operator: String::new(alloc),
             inputs: Vec::new(alloc),
@@ -29,8 +35,7 @@ impl Parts {
         }
     }
 
-    /// Takes a field, and tells what it says of it, if it is one that asks.
-    pub(crate) fn take(&mut self, field: &Field) -> Result<Option<Vec<u8>>, Fail> {
+    fn take(&mut self, field: &Field) -> Result<Option<Vec<u8>>, Fail> {
         let alloc = self.alloc;
         match field.word.as_str() {
             "operator" => {
@@ -60,7 +65,9 @@ impl Parts {
             _ => Ok(Some(self.asked(field)?)),
         }
     }
+}
 
+impl JobParts {
     /// What a field tells that asks for something.
     fn asked(&mut self, field: &Field) -> Result<Vec<u8>, Fail> {
         let alloc = self.alloc;

@@ -12,7 +12,7 @@ pub(crate) fn are_same(wanted: &[u8], came: &[u8]) -> bool
 }
 
 /// Compares the bytes of a name with those that are wanted.
-pub(crate) fn compare(alloc: Global, name: &str, wanted: &[u8], came: &[u8]) -> Result<(), Stop> {
+pub fn compare(alloc: Global, name: &str, wanted: &[u8], came: &[u8]) -> Result<(), Stop> {
     if are_same(wanted, came) {
         return Ok(());
     }
@@ -54,12 +54,7 @@ fn both(
 }
 
 /// Compares two numbers.
-pub(crate) fn compare_numbers(
-    alloc: Global,
-    what: &str,
-    wanted: u64,
-    found: u64,
-) -> Result<(), Stop> {
+pub fn compare_numbers(alloc: Global, what: &str, wanted: u64, found: u64) -> Result<(), Stop> {
     if wanted == found {
         return Ok(());
     }

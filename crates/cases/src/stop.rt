@@ -1,10 +1,11 @@
 //! Why a case doesn't pass.
-use cases::{CasesFault, CasesWhy, Field};
+use crate::case::Field;
+use crate::fault::{CasesFault, CasesWhy};
 use std::alloc::{AllocError, AllocFailed};
 
 /// Why a case doesn't pass.
-#[derive(Drop)]
-pub(crate) enum Stop {
+#[derive(Debug, Drop)]
+pub enum Stop {
     /// Something else came than was wanted.
     Differs(String),
     /// The case says nothing that can be done.
@@ -31,7 +32,7 @@ impl From<CasesFault> for Stop {
 }
 
 /// The words of a field aren't those that it takes.
-pub(crate) fn bad_words(field: &Field) -> Stop {
+pub fn bad_words(field: &Field) -> Stop {
     Stop::Malformed(CasesFault::At {
         line: field.line,
         why: CasesWhy::BadWords,
@@ -39,7 +40,7 @@ pub(crate) fn bad_words(field: &Field) -> Stop {
 }
 
 /// A field that no case has.
-pub(crate) fn unknown(field: &Field) -> Stop {
+pub fn unknown(field: &Field) -> Stop {
     Stop::Malformed(CasesFault::At {
         line: field.line,
         why: CasesWhy::UnknownField,

@@ -1,10 +1,11 @@
 //! Words and numbers of fields.
+use crate::case::Field;
+use crate::expand::words_of;
 use crate::stop::{Stop, bad_words};
-use cases::{Field, words_of};
 use std::alloc::Global;
 
 /// The one word of a field.
-pub(crate) fn one_word(alloc: Global, field: &Field) -> Result<String, Stop> {
+pub fn one_word(alloc: Global, field: &Field) -> Result<String, Stop> {
     let mut words = words_of(alloc, field)?;
     match (words.pop(), words.is_empty()) {
         (Some(word), true) => Ok(word),
@@ -13,7 +14,7 @@ pub(crate) fn one_word(alloc: Global, field: &Field) -> Result<String, Stop> {
 }
 
 /// The number that a word is.
-pub(crate) fn number_of(field: &Field, word: &str) -> Result<u64, Stop> {
+pub fn number_of(field: &Field, word: &str) -> Result<u64, Stop> {
     match word.parse::<u64>() {
         Ok(number) => Ok(number),
         Err(_) => Err(bad_words(field)),
@@ -21,6 +22,6 @@ pub(crate) fn number_of(field: &Field, word: &str) -> Result<u64, Stop> {
 }
 
 /// Whether a word is among these.
-pub(crate) fn is_among(words: &[String], name: &str) -> bool {
+pub fn is_among(words: &[String], name: &str) -> bool {
     words.iter().any(|word| word.as_str() == name)
 }
