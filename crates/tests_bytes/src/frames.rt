@@ -24,7 +24,7 @@ fn frame(alloc: Global) -> Result<Frame, Fail> {
 /// The code of the frame, behind one other byte.
 fn code_of(alloc: Global, f: &Frame) -> Result<Vec<u8>, Fail> {
     let mut out = vec![in alloc; 0xaa]?;
-    let in_range = f.op >= 1 && f.op <= 4 && f.width >= 1 && f.width <= 8;
+    let in_range = f.op >= 1 && f.op <= 6 && f.width >= 1 && f.width <= 8;
     let are_bounds = f.bounds.iter().all(|bound| *bound <= 1 << 63);
     if in_range && are_bounds && f.image.as_slice().len() < 1 << 32 {
         put_frame(f, &mut out)?;

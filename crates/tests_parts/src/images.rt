@@ -1,9 +1,11 @@
-//! Images of windows and of joins, from the words that say their entries.
+//! Images of windows, of joins and of sessions, from the words that say their entries.
 use crate::bytes::word;
 use crate::elements::bound_at;
+use crate::sessions::session_answer;
 use crate::spec::{has_whole_hops, settings_of};
 use crate::told::{number, value};
 use ss_join::Join;
+use ss_session::Except;
 use ss_window::Window;
 use std::alloc::Global;
 use std::test::Fail;
@@ -15,13 +17,20 @@ pub(crate) fn read(
     bounds: &[u64],
     words: &[String],
 ) -> Result<Vec<u8>, Fail> {
-    let answer = if operator == "join" {
+    let answer = if operator.starts_with("session ") {
+        let low = *bounds.first().ok_or("a bound is missing")?;
+        session_answer(alloc, operator, low, words)?
+    } else if operator == "join" || operator == "except" {
         let bytes = join_bytes(alloc, words)?;
         let mut both = [0; 8];
         for (place, bound) in both.iter_mut().zip(bounds) {
             *place = *bound;
         }
-        join_answer(alloc, both, &bytes)?
+        if operator == "join" {
+            join_answer(alloc, both, &bytes)?
+        } else {
+            except_answer(alloc, both, &bytes)?
+        }
     } else {
         let bytes = window_bytes(alloc, words)?;
         let low = *bounds.first().ok_or("a bound is missing")?;
@@ -61,7 +70,20 @@ fn join_answer(alloc: Global, bounds: [u64; 8], bytes: &[u8]) -> Result<String, 
     }
 }
 
-fn answer_of(alloc: Global, again: &[u8], bytes: &[u8]) -> Result<String, Fail> {
+fn except_answer(alloc: Global, bounds: [u64; 8], bytes: &[u8]) -> Result<String, Fail> {
+    match Except::of_image(alloc, bounds, bytes) {
+        Ok(except) if except.held() < 1 << 25 => {
+            let mut again = Vec::new(alloc);
+            except.image(&mut again)?;
+            answer_of(alloc, &again, bytes)
+        }
+        Ok(_) => Err(Fail::new("too many rows")),
+        Err(ss_session::ImageFault::At { at }) => Ok(format!(in alloc; "at {at}")?),
+        Err(ss_session::ImageFault::Memory) => Err(Fail::new("memory")),
+    }
+}
+
+pub(crate) fn answer_of(alloc: Global, again: &[u8], bytes: &[u8]) -> Result<String, Fail> {
     let answer = if again == bytes {
         "taken"
     } else {
@@ -119,16 +141,16 @@ fn put_values(bytes: &mut Vec<u8>, first: &str, second: &str) -> Result<(), Fail
     Ok(())
 }
 
-fn count(words: &[String], place: usize) -> Result<[u8; 4], Fail> {
+pub(crate) fn count(words: &[String], place: usize) -> Result<[u8; 4], Fail> {
     Ok(word(words, place)?.parse::<u32>()?.to_be_bytes())
 }
 
-fn parted<'a>(parts: Option<(&'a str, &'a str)>) -> Result<(&'a str, &'a str), Fail> {
+pub(crate) fn parted<'a>(parts: Option<(&'a str, &'a str)>) -> Result<(&'a str, &'a str), Fail> {
     Ok(parts.ok_or("a comma is missing")?)
 }
 
 /// The bytes of a key, and zeros up to sixteen.
-fn put_key(bytes: &mut Vec<u8>, key: &str) -> Result<(), Fail> {
+pub(crate) fn put_key(bytes: &mut Vec<u8>, key: &str) -> Result<(), Fail> {
     bytes.extend_from_slice(key.as_bytes())?;
     for _ in key.len()..16 {
         bytes.push(0)?;

@@ -12,6 +12,7 @@ mod machine;
 mod merged;
 mod operators;
 mod parts;
+mod sessions;
 mod spec;
 mod told;
 mod windows;

@@ -23,6 +23,16 @@ pub(crate) fn has_whole_hops(s: Settings) -> bool
     1 <= s.hop && s.hop <= 1 << 40 && s.hop <= s.size && s.size <= 64 * s.hop && s.size % s.hop == 0
 }
 
+/// The aggregate that is called so.
+pub(crate) fn aggregate_of(word: Option<&str>) -> Result<Agg, Fail> {
+    match word {
+        Some("sum") => Ok(Agg::Sum),
+        Some("least") => Ok(Agg::Least),
+        Some("greatest") => Ok(Agg::Greatest),
+        _ => Err(Fail::new("no aggregate")),
+    }
+}
+
 /// The settings of `window SIZE HOP AGGREGATE FIELD`.
 pub(crate) fn settings_of(text: &str) -> Result<Settings, Fail> {
     let mut words = text.split(" ");
@@ -30,12 +40,7 @@ pub(crate) fn settings_of(text: &str) -> Result<Settings, Fail> {
         return Err(Fail::new("no window"));
     }
     let (size, hop) = (number(words.next())?, number(words.next())?);
-    let agg = match words.next() {
-        Some("sum") => Agg::Sum,
-        Some("least") => Agg::Least,
-        Some("greatest") => Agg::Greatest,
-        _ => return Err(Fail::new("no aggregate")),
-    };
+    let agg = aggregate_of(words.next())?;
     let of = match words.next() {
         Some("a") => Field::A,
         Some("b") => Field::B,
