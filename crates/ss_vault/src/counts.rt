@@ -3,15 +3,15 @@ ghost use Rattle.ss_vault.specs.Counts.{counts_told};
 
 use ss_outside::{Depot, Outputs};
 
-/// How often the devices of a vault have failed.
+/// How often the devices of a vault have failed. Each count stays at `u64::MAX`.
 #[derive(Clone, Copy, Debug, PartialEq, Eq)]
-pub(crate) struct Counts {
+pub struct Counts {
     /// Calls of the depot that failed.
-    pub(crate) faults: u64,
+    pub faults: u64,
     /// Puts that failed.
-    pub(crate) output_faults: u64,
+    pub output_faults: u64,
     /// Answers of the depot that were short.
-    pub(crate) shorts: u64,
+    pub shorts: u64,
 }
 
 /// How often these devices have failed.

@@ -24,6 +24,7 @@ mod taking;
 mod vault;
 
 pub use answers::{Flush, Keep, Read, Take};
+pub use counts::Counts;
 pub use examples::answer_examples;
 pub use facts::plan_facts;
 pub use fault::{Refused, VaultFault};

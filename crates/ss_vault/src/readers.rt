@@ -4,6 +4,7 @@ ghost use Rattle.ss_plan.specs.Plan.{PlanText};
 ghost use Rattle.ss_state.specs.LowWater.{low_at};
 ghost use Rattle.ss_vault.specs.Sound.{Sound, snap_at};
 
+use crate::counts::{Counts, counts_of};
 use crate::facts::every_snapshot_facts;
 use crate::fault::VaultFault;
 use crate::vault::Vault;
@@ -12,7 +13,7 @@ use ss_water::SnapRow;
 
 impl<O: Outputs, D: Depot> Vault<O, D> {
     ghost use Rattle.ss_vault.specs.Readers.{HasRow, HaveAllEnded, IsOperatorIn, IsOperatorOf};
-    ghost use Rattle.ss_vault.specs.Told.{durable_of, numbers_of, vault_told};
+    ghost use Rattle.ss_vault.specs.Told.{counts_of as counts_of_told, durable_of, numbers_of, vault_told};
 
     /// The number of the first element of stream `v` that is still stored.
     pub fn base(&self, v: u32) -> u64
@@ -99,6 +100,13 @@ impl<O: Outputs, D: Depot> Vault<O, D> {
             self.started.output_faults,
             self.started.shorts,
         )
+    }
+
+    /// How often its devices have failed until now.
+    pub fn counts(&self) -> Counts
+        ensures { result ≡ counts_of_told (vault_told O.told D.told self.now) }
+    {
+        counts_of(&self.outputs, &self.depot)
     }
 
     /// What halted the vault, `Store`, `Output` or `Damaged`, if it was.
