@@ -12,3 +12,4 @@ pub mod SessionReadAgain
 pub mod SessionStateImages
 pub mod SessionPlaces
 pub mod SessionExtends
+pub mod SessionLate

@@ -24,6 +24,15 @@ pub record AreOpen (gap : ℕ) (entries : List SessionEntry) : Type 0 where
   pub apart : AreApart gap entries
   pub times : All (λ s. s.first ≤ s.last) entries
 
+-- no session closes before this time
+abbrev pub NoneCloseBefore : ℕ → ℕ → List SessionEntry → Type 0
+NoneCloseBefore gap time es = All (λ s. time ≤ closing gap s) es
+
+-- what is held: the sessions that are open, and a time before which none of them closes
+pub record AreHeld (gap soonest : ℕ) (entries : List SessionEntry) : Type 0 where
+  pub opened : AreOpen gap entries
+  pub late : NoneCloseBefore gap soonest entries
+
 -- the sessions with a row put in its place
 abbrev pub with_row : Settings → Event → List SessionEntry → List SessionEntry
 with_row s row es = put_session s.gap (join_of s.agg) (single_session (window_of s) row) es

@@ -6,7 +6,7 @@ ghost use Rattle.ss_image.specs.Images.{session_image};
 ghost use Rattle.ss_meaning.specs.Jobs.{IsBefore};
 ghost use Rattle.ss_session.specs.ImageTests.{image_read};
 ghost use Rattle.ss_session.specs.States.{StandsAfter, StepsFromAll, CountsFew, FewArrivalsAreFewRows, reached};
-ghost use Rattle.ss_session.specs.SessionSteps.{with_row, left, given_at};
+ghost use Rattle.ss_session.specs.SessionSteps.{NoneCloseBefore, with_row, left, given_at};
 
 use crate::session_closing::{closed, give};
 use crate::session_entry::Entry;
@@ -31,17 +31,19 @@ pub struct Session {
     agg: Agg,
     of: Field,
     entries: Vec<Entry>,
+    /// No session closes before this time.
+    soonest: u64,
 }
 
 impl Model for Session {
     ghost use Rattle.ss_session.specs.States.{State};
-    ghost use Rattle.ss_session.specs.SessionSteps.{state_of, AreOpen};
+    ghost use Rattle.ss_session.specs.SessionSteps.{state_of, AreHeld};
 
     ghost Value = { State };
 
     ghost view = { λ s. state_of s.gap s.agg s.of s.entries.items };
 
-    ghost invariant = { λ s. AreOpen s.gap s.entries.items };
+    ghost invariant = { λ s. AreHeld s.gap s.soonest s.entries.items };
 }
 
 impl Session {
@@ -57,6 +59,7 @@ impl Session {
             agg,
             of,
             entries: Vec::new(alloc),
+            soonest: u64::MAX,
         }
     }
 
@@ -94,6 +97,9 @@ impl Session {
         ensures due { result ≡ length (reached self.now.settings.gap low self.now.entries) }
         ensures few { result < 2 ^ 63 }
     {
+        if low.get() < self.soonest {
+            return 0;
+        }
         count_closed(self.entries.as_slice(), self.gap, low.get())
     }
 
@@ -133,12 +139,14 @@ impl Session {
     {
         numbers_have_one_spelling();
         let entries = read_image(alloc, gap, agg, low.get(), bytes)?;
+        let soonest = soonest(entries.as_slice(), gap);
         Ok(Session {
             alloc,
             gap,
             agg,
             of,
             entries,
+            soonest,
         })
     }
 
@@ -158,6 +166,7 @@ impl Session {
         self.entries.reserve(1)?;
         let session = Entry::single(row.key, row.start, value(row, self.of));
         put(&mut self.entries, &session, self.gap, self.agg);
+        self.soonest = self.soonest.min(session.closing(self.gap));
         Ok(())
     }
 
@@ -171,10 +180,15 @@ impl Session {
         ensures err { OnErr result (self.new ≡ self.old) }
         ensures err_out { OnErr result (out.new.elements ≡ out.old.elements) }
     {
+        if low < self.soonest {
+            out.reserve(1)?;
+            return Ok(());
+        }
         let by_closing = closed(self.alloc, self.entries.as_slice(), self.gap, low)?;
         out.reserve(by_closing.len() as u64 + 1)?;
         give(&by_closing, self.gap, out);
         forget(&mut self.entries, self.gap, low);
+        self.soonest = soonest(self.entries.as_slice(), self.gap);
         Ok(())
     }
 }
@@ -189,6 +203,18 @@ fn count_closed(entries: &[Entry], gap: u64, low: u64) -> u64
         .iter()
         .filter(|entry| entry.closing(gap) <= low)
         .count() as u64
+}
+
+/// A time before which none of these sessions closes.
+fn soonest(entries: &[Entry], gap: u64) -> u64
+    requires { gap ≤ 2 ^ 40 }
+    ensures { NoneCloseBefore gap result entries.now }
+{
+    let mut least = u64::MAX;
+    for entry in entries {
+        least = least.min(entry.closing(gap));
+    }
+    least
 }
 
 /// Takes out the sessions that have closed at `low`.
