@@ -32,3 +32,4 @@ pub mod SessionSteps
 pub mod SessionKeys
 pub mod SessionRises
 pub mod SessionTouches
+pub mod SessionsOfKeys

@@ -22,6 +22,7 @@ pub mod EntryLaws
 pub mod JoinLaws
 pub mod SessionLists
 pub mod SessionLaws
+pub mod SessionKeys
 pub mod SessionExamples
 pub mod SessionRows
 pub mod ExceptLaws

@@ -25,5 +25,7 @@ pub use laws::{
     meaning_is_whole, merge_keeps_each_input, output_only_grows, positions_add_up,
     sessions_are_of_rows, sessions_close_in_time, sorted_is_in_order, windows_with_rows_are_given,
 };
-pub use session_laws::{session_examples, sessions_are_apart, sessions_follow};
+pub use session_laws::{
+    session_examples, sessions_are_apart, sessions_follow, sessions_go_by_keys,
+};
 pub use wrong_meanings::wrong_meanings_differ;

@@ -1,5 +1,6 @@
 ghost use Rattle.ss_meaning.specs.SessionExamples.{TwoSessions, RowBetweenTwoSessions, SessionsInOrder};
 ghost use Rattle.ss_meaning.specs.SessionExamples.{GapParts, PutBetweenTwo};
+ghost use Rattle.ss_meaning.specs.SessionKeys.{OpenSessionsGoByKeys, SessionRowsGoByKeys};
 ghost use Rattle.ss_meaning.specs.SessionLaws.{AggregatesJoin, SessionsAfterRow, SessionsAfterRise};
 ghost use Rattle.ss_meaning.specs.SessionLaws.{RowsAreOfSessions, SessionsAreApart, PutKeepsApart};
 ghost use Rattle.ss_meaning.specs.SessionLaws.{PutJoinsAtMostTwo};
@@ -18,6 +19,13 @@ pub fn sessions_are_apart()
     ensures all { SessionsAreApart }
     ensures put { PutKeepsApart }
     ensures two { PutJoinsAtMostTwo }
+{}
+
+/// Session windows go by keys: what they remember and give of the rows of some keys alone is what they remember and
+/// give of these keys.
+pub fn sessions_go_by_keys()
+    ensures opened { OpenSessionsGoByKeys }
+    ensures given { SessionRowsGoByKeys }
 {}
 
 /// What session windows give and remember, on small sources.
