@@ -1,5 +1,5 @@
 -- The rows that an image says have times below 2^63.
-use Rattle.std.proofs.Common.{◌≡◌, ℕ, zero, suc, ◌+◌, ◌^◌, ◌<◌, nat_lt, Bool, true, false, cond, ◌&&◌, List, [], ◌∷◌, drop, take, Option, Some, None, Result, Ok, Err, refl, subst, arith}
+use Rattle.std.proofs.Common.{◌≡◌, ℕ, zero, suc, ◌+◌, nat_lt, Bool, true, false, cond, ◌&&◌, List, [], ◌∷◌, drop, take, Option, Some, None, Result, Ok, Err, refl, subst, arith}
 use Rattle.std.proofs.lemmas.Bool.{and_parts, ltb-true}
 use Rattle.std.proofs.lemmas.List.Elements.{All-from_recursion}
 use Rattle.std.specs.Prelude.{slice_index}
@@ -11,7 +11,7 @@ use Rattle.ss_image.specs.Numbers.{key_in}
 use Rattle.ss_image.specs.declared.row_form.RowForm.{RowForm}
 use Rattle.ss_image.specs.Images.{row_len}
 use Rattle.ss_join.specs.ImageLaws.{HasEarlyTimes, ImagesHaveEarlyRows}
-use Rattle.ss_join.specs.ImageTests.{row_in, row_read, rows_read, with_first, is_open_span, both_sides, left_count, right_count, right_place, form_in, sides_read, image_read}
+use Rattle.ss_join.specs.ImageTests.{row_in, row_read, rows_read, with_first, is_open_span, both_sides, left_count, right_count, right_place, form_in, sides_read}
 use Rattle.ss_join.specs.States.{Sides}
 
 early_row : (form : RowForm) (bound : ℕ) (bytes : List ℕ) (row : Event) → row_read form bound bytes ≡ Some row → HasEarlyTimes row

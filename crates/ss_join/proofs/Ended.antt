@@ -1,5 +1,5 @@
 -- How many rows have ended.
-use Rattle.std.proofs.Common.{◌≡◌, ℕ, suc, ◌+◌, ◌<◌, ◌≤◌, nat_lt, nat_le, Bool, true, false, cond, List, [], ◌∷◌, length, filter, count_by, refl, sym, ap, ◌∙◌, arith, ltb-true}
+use Rattle.std.proofs.Common.{◌≡◌, ℕ, suc, ◌<◌, ◌≤◌, nat_lt, nat_le, Bool, true, false, cond, List, [], ◌∷◌, length, filter, count_by, refl, sym, ap, ◌∙◌, arith, ltb-true}
 use Rattle.std.specs.List.{AllByRecursion}
 use Rattle.std.specs.Map.{values_of}
 use Rattle.std.proofs.lemmas.Bool.{lt-leb}
@@ -8,7 +8,7 @@ use Rattle.std.specs.BTreeMap.{BTreeMap}
 use Rattle.std.specs.BTreeSet.{BTreeSet}
 use Rattle.ss_elem.specs.declared.element.Event.{Event}
 use Rattle.ss_meaning.specs.Entries.{rows_ending_above}
-use Rattle.ss_join.specs.Held.{numbered, in_order, rows_held, AreHeld}
+use Rattle.ss_join.specs.Held.{numbered, rows_held, AreHeld}
 use Rattle.ss_join.proofs.Numbers.{filter-in_order, length-in_order}
 use Rattle.ss_join.proofs.Places.{placed_below}
 

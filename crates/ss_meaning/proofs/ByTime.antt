@@ -1,12 +1,12 @@
 -- What happens at times above one and up to another, in the order of those times.
-use Rattle.std.proofs.Common.{◌≡◌, ℕ, suc, ◌+◌, ◌<◌, ◌≤◌, ◌==◌, Bool, true, false, cond, ◌&&◌, ◌⊎◌, inl, inr, ⊎_elim, nat_lt, nat_le, List, [], ◌∷◌, ◌++◌, length, map, filter, refl, sym, ap, ◌∙◌, arith, lt-ltb, le-ltb, eq-eqb, eqb-true, append-nil, append_assoc}
-use Rattle.std.proofs.lemmas.Bool.{cases_order, ne_eqb, le-leb, lt-leb, ltb-true}
+use Rattle.std.proofs.Common.{◌≡◌, ℕ, suc, ◌<◌, ◌≤◌, ◌==◌, Bool, true, false, cond, ◌⊎◌, inl, inr, ⊎_elim, nat_le, List, [], ◌∷◌, ◌++◌, length, map, filter, refl, sym, ap, ◌∙◌, arith, le-ltb, eq-eqb, eqb-true, append-nil}
+use Rattle.std.proofs.lemmas.Bool.{cases_order, ne_eqb, le-leb, lt-leb}
 use Rattle.std.specs.List.{AllByRecursion, flat_map}
 use Rattle.ss_meaning.specs.ByTime.{put_by_time, by_time}
 use Rattle.ss_meaning.specs.Window.{put_once, rising}
 use Rattle.ss_meaning.proofs.Each.{each_weaker, each_given, each_passes, each-flat_map}
 use Rattle.ss_meaning.proofs.Ends.{In, IsRising, rising-rising, in_rising, in_filter, in_map}
-use Rattle.ss_meaning.proofs.EntryEnds.{filter-filter, filter-kept, filter-dropped, put_once-below}
+use Rattle.ss_meaning.proofs.EntryEnds.{filter-kept, filter-dropped, put_once-below}
 use Rattle.ss_meaning.proofs.GivenRows.{each-rising}
 
 module _ {A : Type 0} (of : A → ℕ) where

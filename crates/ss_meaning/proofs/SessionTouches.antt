@@ -1,5 +1,5 @@
 -- A session of one start touches at most two others, which stand at its place.
-use Rattle.std.proofs.Common.{◌≡◌, ℕ, zero, suc, ◌+◌, ◌<◌, ◌≤◌, Bool, true, false, cond, ℤ, List, [], ◌∷◌, ◌++◌, take, drop, All, refl, sym, ap, ◌∙◌, inl, inr, arith}
+use Rattle.std.proofs.Common.{◌≡◌, ℕ, zero, suc, ◌+◌, ◌≤◌, Bool, true, false, cond, ℤ, List, [], ◌∷◌, ◌++◌, take, drop, refl, sym, ap, ◌∙◌, inl, inr, arith}
 use Rattle.std.proofs.lemmas.Bool.{cond-true, cond-false}
 use Rattle.std.proofs.lemmas.List.Elements.{recursion_from_All}
 use Rattle.std.specs.List.{AllByRecursion, prefix_len}
@@ -7,7 +7,7 @@ use Rattle.ss_meaning.specs.Session.{SessionEntry}
 use Rattle.ss_meaning.specs.SessionLists.{IsApart, is_apart, AreApart, joined_sessions, put_session, joined_first}
 use Rattle.ss_meaning.specs.SessionLaws.{PutJoinsAtMostTwo}
 use Rattle.ss_meaning.proofs.Each.{each_weaker}
-use Rattle.ss_meaning.proofs.SessionPuts.{Touches, IsForward, Stand, stand, apart_is, apart_from, not_apart, put_behind, put_before, put_touching, put_first, joined_forward}
+use Rattle.ss_meaning.proofs.SessionPuts.{Touches, IsForward, Stand, stand, apart_is, not_apart, put_before, put_touching, put_first, joined_forward}
 
 -- whether the first of some sessions stands before a session
 abbrev first_apart : ℕ → SessionEntry → List SessionEntry → Bool

@@ -1,6 +1,6 @@
 -- The sessions that close between two times.
-use Rattle.std.proofs.Common.{◌≡◌, ℕ, ◌&&◌, nat_lt, nat_le, List, length, filter, ap, ◌∙◌}
-use Rattle.ss_meaning.specs.Session.{SessionEntry, closing}
+use Rattle.std.proofs.Common.{◌&&◌, nat_lt, nat_le, length, filter, ap, ◌∙◌}
+use Rattle.ss_meaning.specs.Session.{closing}
 use Rattle.ss_meaning.specs.SessionRows.{closes_between, ClosedAreByTime, ClosedAreCounted}
 use Rattle.ss_meaning.proofs.ByTime.{by_ends, length-by_time}
 

@@ -1,10 +1,10 @@
 -- Of which rows a session is.
-use Rattle.std.proofs.Common.{◌≡◌, ℕ, suc, ◌+◌, ◌<◌, ◌≤◌, ◌==◌, Bool, true, false, cond, nat_lt, nat_le, List, [], ◌∷◌, length, map, filter, refl, arith, eqb-true, All}
+use Rattle.std.proofs.Common.{◌≡◌, ℕ, suc, ◌+◌, ◌≤◌, ◌==◌, Bool, true, false, cond, nat_lt, nat_le, List, [], ◌∷◌, length, map, filter, refl, arith, eqb-true}
 use Rattle.std.proofs.lemmas.List.Elements.{All-contains_itself, All-from_recursion, recursion_from_All}
 use Rattle.std.specs.List.{AllByRecursion, Contains}
 use Rattle.ss_elem.specs.declared.element.Event.{Event}
 use Rattle.ss_meaning.specs.Window.{rising}
-use Rattle.ss_meaning.specs.Session.{SessionWindow, SessionEntry, put_by_start, by_start, first_start, last_start, before_runs, cut, runs_of, session_entry, sessions}
+use Rattle.ss_meaning.specs.Session.{SessionWindow, put_by_start, by_start, first_start, last_start, before_runs, cut, runs_of, session_entry, sessions}
 use Rattle.ss_meaning.specs.SessionRows.{IsOfRows, SessionsAreOfRows}
 use Rattle.ss_meaning.proofs.Each.{each-map, each-flat_map, each_weaker, each_given, each_passes}
 use Rattle.ss_meaning.proofs.SessionRows.{each-by_start}

@@ -1,5 +1,5 @@
 -- What is true of the left rows that a join by absence remembers, and of those that it gives.
-use Rattle.std.specs.Prelude.{◌≡◌, ℕ, ◌≤◌, nat_le, if◌then◌else◌, List, [], ◌∷◌, ◌++◌, length, filter}
+use Rattle.std.specs.Prelude.{◌≡◌, ℕ, ◌≤◌, nat_le, List, [], ◌∷◌, ◌++◌, length, filter}
 use Rattle.ss_elem.specs.declared.element.Event.{Event}
 use Rattle.ss_meaning.specs.ByTime.{by_time}
 use Rattle.ss_meaning.specs.Except.{is_alone, alone, ending_between}

@@ -1,6 +1,6 @@
 -- Which left rows are alone, and which have ended.
-use Rattle.std.proofs.Common.{◌≡◌, ℕ, suc, ◌+◌, ◌<◌, ◌≤◌, ◌==◌, Bool, true, false, cond, ◌&&◌, ◌||◌, not, nat_lt, nat_le, List, [], ◌∷◌, ◌++◌, length, map, filter, take, drop, refl, sym, ap, ◌∙◌, arith, ltb-true, ltb-false, eq-eqb, All}
-use Rattle.std.proofs.lemmas.Bool.{ne_eqb, eqb-false, eqb-true, leb-false, le-leb, lt-leb, leb-true, cases_Bool, false≢true}
+use Rattle.std.proofs.Common.{◌≡◌, ℕ, suc, ◌+◌, ◌<◌, ◌≤◌, ◌==◌, Bool, true, false, cond, ◌&&◌, ◌||◌, not, nat_lt, nat_le, List, [], ◌∷◌, length, filter, refl, sym, ap, ◌∙◌, arith, ltb-true, ltb-false, eq-eqb, All}
+use Rattle.std.proofs.lemmas.Bool.{ne_eqb, eqb-false, eqb-true, le-leb, lt-leb, false≢true}
 use Rattle.std.proofs.lemmas.List.{length-map}
 use Rattle.std.proofs.lemmas.List.Elements.{All-from_recursion, recursion_from_All}
 use Rattle.std.specs.List.{AllByRecursion, list_any, insert, prefix_len}

@@ -1,5 +1,5 @@
 -- One element more of what arrives at a join by absence.
-use Rattle.std.proofs.Common.{◌≡◌, ℕ, ◌+◌, ◌-◌, ◌<◌, ◌≤◌, ◌==◌, Bool, true, false, cond, ◌&&◌, nat_lt, nat_le, List, [], ◌∷◌, ◌++◌, length, map, filter, Option, Some, None, Result, Ok, Err, OnOk, refl, sym, ap, subst, ◌∙◌, arith, ltb-true, append-nil}
+use Rattle.std.proofs.Common.{◌≡◌, ℕ, ◌≤◌, ◌==◌, Bool, true, false, cond, ◌&&◌, nat_lt, nat_le, List, [], ◌∷◌, ◌++◌, length, map, filter, Some, None, Result, Ok, Err, OnOk, refl, sym, ap, ◌∙◌, arith, ltb-true, append-nil}
 use Rattle.std.proofs.lemmas.Bool.{and_parts, leb-true}
 use Rattle.std.proofs.lemmas.Grind.{flat_map-append}
 use Rattle.std.proofs.lemmas.List.{map-append, length-map}
@@ -9,12 +9,12 @@ use Rattle.ss_elem.specs.Validity.{top, next_bound}
 use Rattle.ss_elem.specs.declared.element.Event.{Event}
 use Rattle.ss_elem.specs.declared.element.Element.{Element}
 use Rattle.ss_elem.specs.declared.element.Element.TheVariants.{Row, Cti, End}
-use Rattle.ss_join.specs.States.{Sides, StandsAs, StepsAs, MayFollow, AreBoundsAfter, arrival}
+use Rattle.ss_join.specs.States.{Sides, StandsAs, StepsAs, arrival}
 use Rattle.ss_meaning.specs.Bound.{bound_after, bound_past, bound, row_of, rows}
-use Rattle.ss_meaning.specs.Emit.{Except, rows_at}
-use Rattle.ss_meaning.specs.Entries.{Entries, NoEntries, WindowEntries, JoinRows, SessionEntries, entries_after, rows_ending_above, join_side, alone_side}
-use Rattle.ss_meaning.specs.Except.{absent_row, alone, is_alone, ending_between, left_alone}
-use Rattle.ss_meaning.specs.ExceptLaws.{ending_up_to, EndedRowsNeverMatch, LeftsAfterLeftRow, LeftsAfterRightRow, ReachedRowsAreGiven, NoneGivenWithoutRise, EndedRowsAreCounted}
+use Rattle.ss_meaning.specs.Emit.{Except}
+use Rattle.ss_meaning.specs.Entries.{Entries, NoEntries, WindowEntries, JoinRows, SessionEntries, rows_ending_above, join_side, alone_side}
+use Rattle.ss_meaning.specs.Except.{absent_row, alone, is_alone, ending_between}
+use Rattle.ss_meaning.specs.ExceptLaws.{ending_up_to, EndedRowsNeverMatch, LeftsAfterRightRow, ReachedRowsAreGiven, NoneGivenWithoutRise}
 use Rattle.ss_meaning.specs.JoinLaws.{SideAfterRise}
 use Rattle.ss_meaning.specs.Merge.{Arrival, is_from, from_input}
 use Rattle.ss_session.specs.ExceptStates.{CountsGiven}

@@ -1,4 +1,4 @@
-use Rattle.std.proofs.Common.{◌≡◌, ℕ, List, nat_le, length, filter, count_by, refl, sym, ap, subst, ◌∙◌, arith}
+use Rattle.std.proofs.Common.{◌≡◌, List, nat_le, length, filter, count_by, refl, sym, ap, subst, ◌∙◌, arith}
 use Rattle.ss_elem.specs.declared.element.Event.{Event}
 use Rattle.ss_meaning.specs.Entries.{rows_ending_above}
 use Rattle.ss_join.proofs.Ended.{counted, none_reached}

@@ -1,4 +1,4 @@
-use Rattle.std.proofs.Common.{◌≡◌, false, refl, sym, ap, subst, ◌∙◌, List}
+use Rattle.std.proofs.Common.{◌≡◌, refl, sym, subst, ◌∙◌, List}
 use Rattle.ss_elem.specs.declared.element.Event.{Event}
 use Rattle.ss_meaning.specs.Entries.{rows_ending_above}
 use Rattle.ss_join.proofs.Holding.{forgot_all, forgot}

@@ -1,5 +1,5 @@
 -- How many rows an arriving row gives.
-use Rattle.std.proofs.Common.{◌≡◌, ℕ, zero, suc, ◌<◌, ◌==◌, ◌&&◌, nat_le, Bool, cond, List, [], ◌∷◌, length, filter, sym, subst, arith}
+use Rattle.std.proofs.Common.{◌≡◌, ℕ, zero, suc, ◌<◌, ◌==◌, ◌&&◌, nat_le, cond, List, [], ◌∷◌, length, filter, sym, subst, arith}
 use Rattle.std.specs.Prelude.{slice_index}
 use Rattle.ss_elem.specs.declared.element.Event.{Event}
 use Rattle.ss_elem.specs.declared.element.Element.{Element}

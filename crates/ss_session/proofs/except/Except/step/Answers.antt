@@ -1,5 +1,5 @@
 -- What each arrival makes of the sides.
-use Rattle.std.proofs.Common.{◌≡◌, ℕ, zero, suc, ◌<◌, ◌==◌, ◌++◌, Bool, true, false, cond, List, [], ◌∷◌, map, OnOk, refl, sym, ap, subst, ◌∙◌, arith, append-nil}
+use Rattle.std.proofs.Common.{◌≡◌, ℕ, zero, suc, ◌<◌, ◌==◌, ◌++◌, cond, List, [], map, refl, sym, subst, ◌∙◌, arith, append-nil}
 use Rattle.std.specs.Prelude.{slice_index}
 use Rattle.ss_elem.specs.declared.element.Event.{Event}
 use Rattle.ss_elem.specs.declared.element.Element.{Element}
