@@ -108,7 +108,7 @@ fn shown_op(alloc: Global, job: &Job, v: u32) -> Result<String, AllocError>
             let file = job.file(v);
             format!(in alloc; "file {file}")
         }
-        Op::Select | Op::Union | Op::Window | Op::Join => {
+        Op::Select | Op::Union | Op::Window | Op::Join | Op::Session | Op::Except => {
             let spec = shown_spec(alloc, job.spec(v))?;
             let policy = job.policy(v);
             format!(in alloc; "{spec}{policy:?}")
